@@ -1,0 +1,4 @@
+pub mod Encoding
+pub mod Faults
+pub mod Reading
+pub mod Walking

@@ -1,0 +1,67 @@
+use crate::Contents;
+use crate::ContentsDebug;
+use crate::ContentsPartialEq;
+use crate::Fault;
+use crate::FaultDebug;
+use crate::FaultPartialEq;
+use crate::raw_weight;
+use crate::walk;
+use std::test::*;
+
+fn refused(card: &[u8], fault: Fault) -> Result<(), Fail> {
+    check_eq(walk(card), Err(fault))
+}
+
+#[test]
+fn a_card_is_its_records() -> Result<(), Fail> {
+    check_eq(
+        walk(b"EN"),
+        Ok(Contents {
+            alternatives: 0,
+            rules: 0,
+        }),
+    )?;
+    let card = b"AL\x02\x03\0\0\0\x01\0\0\0RU\x01\x01\x02\x01\x01RU\x02\0EN";
+    check_eq(
+        walk(card),
+        Ok(Contents {
+            alternatives: 1,
+            rules: 2,
+        }),
+    )
+}
+
+#[test]
+fn a_card_that_ends_early() -> Result<(), Fail> {
+    refused(b"", Fault::EndsEarly { offset: 0 })?;
+    refused(b"A", Fault::EndsEarly { offset: 0 })?;
+    refused(b"X", Fault::EndsEarly { offset: 0 })?;
+    refused(b"AL", Fault::EndsEarly { offset: 0 })?;
+    refused(b"RU\x01", Fault::EndsEarly { offset: 0 })?;
+    refused(b"RU\x02\x01\0\x01", Fault::EndsEarly { offset: 0 })?;
+    refused(b"RU\x02\0E", Fault::EndsEarly { offset: 4 })?;
+    refused(b"RU\x02\0", Fault::EndsEarly { offset: 4 })
+}
+
+#[test]
+fn a_count_is_judged_before_the_end() -> Result<(), Fail> {
+    refused(b"AL\x09", Fault::NumberOfChoices { offset: 0 })?;
+    refused(b"AL\x01\0\0\0\0EN", Fault::NumberOfChoices { offset: 0 })?;
+    refused(b"RU\x01\x09", Fault::NumberOfLiterals { offset: 0 })
+}
+
+#[test]
+fn tags_and_what_follows_the_end() -> Result<(), Fail> {
+    refused(b"RU\x02\0AX", Fault::UnknownTag { offset: 4 })?;
+    refused(b"al", Fault::UnknownTag { offset: 0 })?;
+    refused(b"EN\0", Fault::BytesAfterEnd { offset: 2 })?;
+    refused(b"RU\x02\0ENEN", Fault::BytesAfterEnd { offset: 6 })
+}
+
+#[test]
+fn weights_are_four_bytes_lowest_first() -> Result<(), Fail> {
+    let weights = b"\x01\x02\x03\x04\xff\xff\xff\xff\x07";
+    check_eq(raw_weight(weights, 0), Some(67305985))?;
+    check_eq(raw_weight(weights, 1), Some(4294967295))?;
+    check_eq(raw_weight(weights, 2), None)
+}
