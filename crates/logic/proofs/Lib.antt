@@ -1,0 +1,15 @@
+pub mod Bases
+pub mod Conjoined
+pub mod Contraries
+pub mod Duals
+pub mod Examples
+pub mod Formed
+pub mod Laws
+pub mod Limits
+pub mod Mapped
+pub mod Members
+pub mod Needs
+pub mod Places
+pub mod Tables
+pub mod Truths
+pub mod Worlds

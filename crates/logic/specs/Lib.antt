@@ -1,0 +1,9 @@
+pub mod Atoms
+pub mod Duals
+pub mod Examples
+pub mod Explanations
+pub mod Limits
+pub mod Minimals
+pub mod Needed
+pub mod Options
+pub mod Rules

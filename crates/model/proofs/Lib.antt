@@ -1,0 +1,11 @@
+pub mod Bodies
+pub mod Declares
+pub mod Determined
+pub mod Journals
+pub mod Laws
+pub mod Meanings
+pub mod Same
+pub mod Sizes
+pub mod States
+pub mod Supposes
+pub mod Tables

@@ -1,0 +1,10 @@
+pub mod Alternatives
+pub mod Holding
+pub mod Journal
+pub mod Judging
+pub mod Literals
+pub mod Meaning
+pub mod Models
+pub mod Refusals
+pub mod Rules
+pub mod Supposed
