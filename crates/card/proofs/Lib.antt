@@ -1,3 +1,5 @@
-pub mod Opening
+pub mod Decoding
 pub mod Framing
+pub mod Loads
+pub mod Opening
 pub mod Walks

@@ -4,14 +4,17 @@ use Prim.Native.Nat.{ℕ}
 use lib.Chars.{codes}
 use Rattle.std.specs.Written.{decimal}
 use Rattle.card.specs.declared.fault.Fault.{Fault}
-use Rattle.card.specs.declared.fault.Fault.the-variants.{NumberOfChoices, NumberOfLiterals, UnknownTag, EndsEarly, BytesAfterEnd}
+use Rattle.card.specs.declared.fault.Fault.the-variants.{NumberOfChoices, NumberOfLiterals, UnknownTag, EndsEarly, BytesAfterEnd, Refused}
+use Rattle.model.specs.Refusals as model
 
+-- the refusal of a model call has its own number and place
 abbrev pub number : Fault → ℕ
 number (NumberOfChoices at) = 1
 number (NumberOfLiterals at) = 3
 number (UnknownTag at) = 6
 number (EndsEarly at) = 7
 number (BytesAfterEnd at) = 8
+number (Refused at refusal) = model.number refusal
 
 abbrev pub offset : Fault → ℕ
 offset (NumberOfChoices at) = at
@@ -19,10 +22,16 @@ offset (NumberOfLiterals at) = at
 offset (UnknownTag at) = at
 offset (EndsEarly at) = at
 offset (BytesAfterEnd at) = at
+offset (Refused at refusal) = at
 
--- no literal is concerned
+-- no literal is concerned, unless the model refused one
 abbrev pub place : Fault → ℕ
-place fault = 0
+place (NumberOfChoices at) = 0
+place (NumberOfLiterals at) = 0
+place (UnknownTag at) = 0
+place (EndsEarly at) = 0
+place (BytesAfterEnd at) = 0
+place (Refused at refusal) = model.place refusal
 
 -- how a refused card is told: its number, offset and place in base ten
 abbrev pub refusal-text : Fault → List ℕ

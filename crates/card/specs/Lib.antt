@@ -1,4 +1,5 @@
 pub mod Encoding
 pub mod Faults
+pub mod Loading
 pub mod Reading
 pub mod Walking

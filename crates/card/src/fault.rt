@@ -1,6 +1,10 @@
 ghost use mathlib.Core.Path.{_≡_};
 ghost use Rattle.std.specs.declared.option.Option.the-variants.{Some};
 ghost use Rattle.card.specs.Faults.{number, offset, place, refusal-text};
+use model::Refusal;
+use model::RefusalDebug;
+use model::RefusalEq;
+use model::RefusalPartialEq;
 use std::fmt;
 
 /// Why a card is refused. Each case holds the offset that the refusal names.
@@ -16,6 +20,8 @@ pub enum Fault {
     EndsEarly { offset: usize },
     /// Bytes follow the end record.
     BytesAfterEnd { offset: usize },
+    /// The model refuses what a record says.
+    Refused { offset: usize, refusal: Refusal },
 }
 
 impl Fault {
@@ -29,6 +35,7 @@ impl Fault {
             Fault::UnknownTag { .. } => 6,
             Fault::EndsEarly { .. } => 7,
             Fault::BytesAfterEnd { .. } => 8,
+            Fault::Refused { refusal, .. } => refusal.number(),
         }
     }
 
@@ -42,14 +49,18 @@ impl Fault {
             Fault::UnknownTag { offset } => *offset,
             Fault::EndsEarly { offset } => *offset,
             Fault::BytesAfterEnd { offset } => *offset,
+            Fault::Refused { offset, .. } => *offset,
         }
     }
 
-    /// Which literal of the record is concerned: none, so 0.
-    pub fn place(&self) -> u8
+    /// Which literal of the record is concerned; 0 for the head of a rule, or where none is.
+    pub fn place(&self) -> usize
         ensures { λ r. ⌜ r ≡ place (now (self .entry)) ⌝ }
     {
-        0
+        match self {
+            Fault::Refused { refusal, .. } => refusal.place(),
+            _ => 0,
+        }
     }
 }
 

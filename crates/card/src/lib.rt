@@ -1,6 +1,7 @@
 //! Cards: a model as bytes, record by record.
 mod contents;
 mod fault;
+mod loading;
 mod reader;
 
 pub use contents::Contents;
@@ -14,6 +15,7 @@ pub use fault::FaultDebug;
 pub use fault::FaultDisplay;
 pub use fault::FaultEq;
 pub use fault::FaultPartialEq;
+pub use loading::load;
 pub use reader::Reader;
 pub use reader::Record;
 pub use reader::raw_weight;
