@@ -6,12 +6,11 @@ use Prim.Native.Nat.{ℕ, zero, suc, _+_, _-_, _≤_, _<_}
 use native.Mathlib.Omega.{arith}
 use lib.Dec.{eqb, leb, ltb}
 use lib.ListN.{length, getD, set, take, drop, replicate}
-use Rattle.std.specs.declared.result.Result.the-variants.{Ok, Err}
+use Rattle.std.specs.declared.result.Result.the-variants.{Ok}
 use Rattle.std.proofs.shelf.Lists.{take-at, drop-at, take-more-set, drop-set-lt, drop-drop, drop-replicate, map-push, length-append, length-replicate, length-map, length-take-le}
-use Rattle.std.proofs.shelf.Tests.{and-parts, and-from, cond-true, cond-false, le-leb, lt-ltb, le-ltb, eq-eqb}
+use Rattle.std.proofs.shelf.Tests.{and-parts, and-from, cond-true, le-leb, lt-ltb, eq-eqb}
 use Rattle.std.proofs.shelf.Ways.{tells}
 use Rattle.model.specs.declared.alternative.Alternative.{Alternative}
-use Rattle.model.specs.declared.refusal.Refusal.the-variants.{NumberOfAlternatives}
 use Rattle.model.specs.Alternatives.{weights-of, alternative-of, blank-alternative, zeros, canonical-alternative, canonical-alternatives}
 use Rattle.model.specs.Holding.{sizes-of}
 use Rattle.model.specs.Models.{declaring}
@@ -61,9 +60,6 @@ module _ (table : List Alternative) (n : ℕ) (a : Alternative) (long : length t
 
 -- the answer
 module _ (as′ : List (List ℕ)) (weights : List ℕ) (some : 2 ≤ length weights) (fit : length weights ≤ 8) where
-  pub declaring-full : length as′ ≡ 16 → Err NumberOfAlternatives ≡ declaring as′ weights
-  declaring-full full = sym (cond-true _ _ _ (and-from _ _ (le-leb 2 _ some) (le-leb _ 8 fit)) ∙ cond-false _ _ _ (le-ltb (length as′) 16 (omega arith)))
-
   pub declaring-more : length as′ < 16 → Ok (as′ ++ (weights ∷ [])) ≡ declaring as′ weights
   declaring-more room = sym (cond-true _ _ _ (and-from _ _ (le-leb 2 _ some) (le-leb _ 8 fit)) ∙ cond-true _ _ _ (lt-ltb (length as′) 16 room))
 

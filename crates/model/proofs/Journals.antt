@@ -24,7 +24,7 @@ use Rattle.model.specs.declared.model.Model.{Model}
 use Rattle.model.specs.declared.refusal.Refusal.{Refusal}
 use Rattle.model.specs.declared.rule.Rule.{Rule}
 use Rattle.model.specs.declared.suppositions.Suppositions.{Suppositions}
-use Rattle.model.specs.Journal.{Stated, Journal, Call, declares, weighs, states, checks, supposes, ends, asks, feed, as-rule, Taken, Agrees, fresh, ended}
+use Rattle.model.specs.Journal.{Stated, Journal, Call, declares, weighs, states, supposes, feed, as-rule, Taken, Agrees, fresh}
 use Rattle.model.specs.Judging.{is-atom, judge-head, judge-length, judge-literal, judge-from, judge-rule}
 use Rattle.model.specs.Models.{alternatives, rules, sizes, declaring, reweighing, weighing, put-answer, judged, stating, outcome}
 use Rattle.model.specs.Refusals.{smaller}
@@ -143,16 +143,10 @@ agrees-fresh m s none no-alternative no-rule = record {
   supposed = none;
 }
 
-module _ (j : Journal) (m : Model) (s t : Suppositions) (g : Agrees j m s) where
-  pub agrees-supposes : (a c : ℕ) → t .choices ≡ supposing (alternatives m) (s .choices) a c → Agrees (feed j (supposes a c) true) m t
-  agrees-supposes a c is = record {
-    declared = g .declared;
-    taken = g .taken;
-    held = g .held;
-    supposed = is ∙ ap (λ as′. supposing as′ (s .choices) a c) (g .declared) ∙ ap (λ ns. supposing (j .declared) ns a c) (g .supposed);
-  }
-
-  pub agrees-ends : (notes : List (List ℕ)) → j .notes ≡ t .choices ∷ notes → Agrees (feed j ends true) m t
-  agrees-ends notes is =
-      let rest : ended j (t .choices ∷ notes) ≡ feed j ends true = ap (ended j) (sym is) in
-      subst (λ k. Agrees k m t) rest (record { declared = g .declared; taken = g .taken; held = g .held; supposed = refl })
+pub agrees-supposes : (j : Journal) (m : Model) (s t : Suppositions) → Agrees j m s → (a c : ℕ) → t .choices ≡ supposing (alternatives m) (s .choices) a c → Agrees (feed j (supposes a c) true) m t
+agrees-supposes j m s t g a c is = record {
+  declared = g .declared;
+  taken = g .taken;
+  held = g .held;
+  supposed = is ∙ ap (λ as′. supposing as′ (s .choices) a c) (g .declared) ∙ ap (λ ns. supposing (j .declared) ns a c) (g .supposed);
+}
