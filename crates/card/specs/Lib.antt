@@ -2,4 +2,5 @@ pub mod Encoding
 pub mod Faults
 pub mod Loading
 pub mod Reading
+pub mod Storing
 pub mod Walking

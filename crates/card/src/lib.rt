@@ -3,6 +3,7 @@ mod contents;
 mod fault;
 mod loading;
 mod reader;
+mod storing;
 
 pub use contents::Contents;
 pub use contents::ContentsDebug;
@@ -19,6 +20,7 @@ pub use loading::load;
 pub use reader::Reader;
 pub use reader::Record;
 pub use reader::raw_weight;
+pub use storing::store;
 
 #[cfg(test)]
 mod tests;

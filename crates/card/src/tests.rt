@@ -6,6 +6,7 @@ use crate::FaultDebug;
 use crate::FaultPartialEq;
 use crate::load;
 use crate::raw_weight;
+use crate::store;
 use crate::walk;
 use model::Model;
 use model::ModelPartialEq;
@@ -127,4 +128,35 @@ fn the_model_refuses_a_record() -> Result<(), Fail> {
                 refusal: Refusal::NotDeclared { place: 2 },
             }),
     )
+}
+
+#[test]
+fn a_model_is_written_as_its_card() -> Result<(), Fail> {
+    let mut model = Model::new();
+    check(
+        load(
+            &mut model,
+            b"RU\x02\0AL\x02\x01\x02\x03\x04\0\0\0\0RU\x01\x01\x02\x01\x01EN",
+        )
+            == Ok(()),
+    )?;
+    let card = b"AL\x02\x01\x02\x03\x04\0\0\0\0RU\x01\x01\x02\x01\x01RU\x02\0EN";
+    let mut buffer = [9; 26];
+    check(store(&model, &mut buffer) == Ok(24))?;
+    check_eq(&buffer[0..24], card)?;
+    check_eq(&buffer[24..26], &[9, 9])?;
+    let mut copy = Model::new();
+    check(load(&mut copy, &buffer[0..24]) == Ok(()))?;
+    check(copy == model)
+}
+
+#[test]
+fn a_buffer_that_is_too_short_stays() -> Result<(), Fail> {
+    let mut model = Model::new();
+    check(load(&mut model, board()) == Ok(()))?;
+    let mut buffer = [9; 39];
+    check(store(&model, &mut buffer[0..38]) == Err(Refusal::ShortBuffer))?;
+    check_eq(&buffer, &[9; 39])?;
+    check(store(&model, &mut buffer) == Ok(39))?;
+    check_eq(&buffer, board())
 }

@@ -5,7 +5,7 @@ use lib.Dec.{ltb}
 use Rattle.std.specs.declared.option.Option.{Option}
 use Rattle.std.specs.declared.option.Option.the-variants.{Some, None}
 use Rattle.model.specs.declared.refusal.Refusal.{Refusal}
-use Rattle.model.specs.declared.refusal.Refusal.the-variants.{NumberOfChoices, NoAtom, NumberOfLiterals, NoLiteral, NotLower, NumberOfAlternatives, NotDeclared, NumberOfRules, AlreadySupposed}
+use Rattle.model.specs.declared.refusal.Refusal.the-variants.{NumberOfChoices, NoAtom, NumberOfLiterals, NoLiteral, NotLower, ShortBuffer, NumberOfAlternatives, NotDeclared, NumberOfRules, AlreadySupposed}
 
 abbrev pub number : Refusal → ℕ
 number NumberOfChoices = 1
@@ -13,6 +13,7 @@ number (NoAtom at) = 2
 number NumberOfLiterals = 3
 number (NoLiteral at) = 4
 number (NotLower at) = 5
+number ShortBuffer = 10
 number NumberOfAlternatives = 11
 number (NotDeclared at) = 12
 number NumberOfRules = 13
@@ -25,6 +26,7 @@ place (NoAtom at) = at
 place NumberOfLiterals = 0
 place (NoLiteral at) = at
 place (NotLower at) = at
+place ShortBuffer = 0
 place NumberOfAlternatives = 0
 place (NotDeclared at) = at
 place NumberOfRules = 0

@@ -15,6 +15,8 @@ pub enum Refusal {
     NoLiteral { place: usize },
     /// An atom in a body is not lower than the head.
     NotLower { place: usize },
+    /// The buffer is shorter than the card to be written.
+    ShortBuffer,
     /// Sixteen alternatives are held.
     NumberOfAlternatives,
     /// An alternative or choice is not declared.
@@ -36,6 +38,7 @@ impl Refusal {
             Refusal::NumberOfLiterals => 3,
             Refusal::NoLiteral { .. } => 4,
             Refusal::NotLower { .. } => 5,
+            Refusal::ShortBuffer => 10,
             Refusal::NumberOfAlternatives => 11,
             Refusal::NotDeclared { .. } => 12,
             Refusal::NumberOfRules => 13,
