@@ -1,7 +1,7 @@
 -- The turns of a loop that writes one element into each place of a slice from some place on.
-use Rattle.std.proofs.Common.{◌≡◌, ℕ, ◌+◌, ◌-◌, ◌<◌, ◌≤◌, min, List, [], ◌∷◌, ◌++◌, length, get_or, take, drop, set, replicate, sym, refl, ap, ◌∙◌, arith}
+use Rattle.std.proofs.Common.{◌≡◌, ℕ, ◌+◌, ◌-◌, ◌<◌, ◌≤◌, List, [], ◌∷◌, ◌++◌, length, get_or, take, drop, set, replicate, sym, ap, ◌∙◌, arith}
 use native.Mathlib.Nat.{sub_self}
-use Rattle.std.proofs.lemmas.List.{append_assoc, append-nil, length-append, length-take, length-take-le, length-drop, length-replicate, replicate_more, take-append-drop, drop_more, drop_all, set_at}
+use Rattle.std.proofs.lemmas.List.{append_assoc, append-nil, length-append, length-take, length-take-le, length-replicate, replicate_more, take-append-drop, drop_more, drop_all, set_at}
 
 module _ {V : Type 0} (x : V) (from : ℕ) (es : List V) where
   -- es with x in the places from `from` up to i

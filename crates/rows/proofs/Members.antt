@@ -1,6 +1,6 @@
 -- What is among a list, and what covers an element.
 use Rattle.std.proofs.Common.{◌≡◌, Bool, true, false, cond, not, ◌⊎◌, List, [], ◌∷◌, ◌++◌, sym, refl, subst, inl, inr, ⊎_elim}
-use Rattle.std.specs.List.{AllByRecursion as All}
+use Rattle.std.specs.List.{AllByRecursion}
 use Rattle.std.proofs.lemmas.Bool.{true≢false, both_ways, not-true, not-false, cond_both, or_cases, or_left, or_right, or_parts}
 use Rattle.rows.specs.Keeping.{covered, spared, placed}
 use Rattle.rows.specs.Minimal.{Among, Ascending}
@@ -17,11 +17,11 @@ same_tests false true f g = g refl
 same_tests false false f g = refl
 
 -- what holds of all holds of each member, and the other way round
-pub all_among : {V : Type 0} (P : V → Type 0) (xs : List V) → All P xs → (e : V) → Among xs e → P e
+pub all_among : {V : Type 0} (P : V → Type 0) (xs : List V) → AllByRecursion P xs → (e : V) → Among xs e → P e
 all_among P [] h e k = absurd k
 all_among P (x ∷ xs) h e k = ⊎_elim (λ q. subst P q h.0) (all_among P xs h.1 e) k
 
-pub all_from_among : {V : Type 0} (P : V → Type 0) (xs : List V) → ((e : V) → Among xs e → P e) → All P xs
+pub all_from_among : {V : Type 0} (P : V → Type 0) (xs : List V) → ((e : V) → Among xs e → P e) → AllByRecursion P xs
 all_from_among P [] h = tt
 all_from_among P (x ∷ xs) h = (h x (inl refl), all_from_among P xs (λ e k. h e (inr k)))
 

@@ -1,11 +1,11 @@
 -- The minimal ones of a list, and one more; and lists that a run leaves as they are.
-use Rattle.std.proofs.Common.{◌≡◌, ℕ, ◌+◌, ◌≤◌, Bool, true, false, cond, leb, ◌⊎◌, List, [], ◌∷◌, ◌++◌, length, Some, None, sym, refl, ap, ◌∙◌, subst, inl, inr, ⊎_elim, append_assoc, append-nil, arith}
+use Rattle.std.proofs.Common.{◌≡◌, ℕ, ◌+◌, ◌≤◌, Bool, true, false, leb, List, [], ◌∷◌, ◌++◌, length, Some, None, sym, refl, ap, ◌∙◌, subst, inl, inr, ⊎_elim, append_assoc, append-nil, arith}
 use Rattle.std.proofs.lemmas.List.{length-append}
-use Rattle.std.proofs.lemmas.Bool.{both_ways, cases_Bool, cond-true, cond-false, cond_both, le-leb, leb-true, or_from, not_from_false}
+use Rattle.std.proofs.lemmas.Bool.{both_ways, cases_Bool, cond-true, cond-false, le-leb, leb-true, or_from, not_from_false}
 use Rattle.rows.specs.Keeping.{covered, spared, placed, within, kept, and_then, kept_all}
 use Rattle.rows.specs.Minimal.{Among, AllValid, Minimal, Ascending, Minimals}
 use Rattle.rows.specs.Orders.{Orders}
-use Rattle.rows.proofs.Members.{at_cond, all_among, among_left, among_last}
+use Rattle.rows.proofs.Members.{at_cond, all_among, among_left}
 use Rattle.rows.proofs.Kept.{Stands, stands_next, stands_minimal, some_same, none_some, first_put}
 use Rattle.rows.proofs.Puts.{length_placed}
 use Rattle.rows.proofs.Turns.{spared_most}

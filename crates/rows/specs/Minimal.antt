@@ -1,6 +1,6 @@
 -- What a run keeps, without a word of how it keeps it.
 use Rattle.std.specs.Prelude.{◌≡◌, ℕ, Bool, true, ◌⊎◌, ◌↔◌, List, [], ◌∷◌, Some}
-use Rattle.std.specs.List.{AllByRecursion as All}
+use Rattle.std.specs.List.{AllByRecursion}
 use Rattle.rows.specs.Keeping.{covered, kept_all}
 
 -- e is one of xs
@@ -10,7 +10,7 @@ Among (x ∷ xs) e = (x ≡ e) ⊎ Among xs e
 
 -- all of xs are valid
 abbrev pub AllValid : {V : Type 0} → (V → Bool) → List V → Type 0
-AllValid valid xs = All (λ x. valid x ≡ true) xs
+AllValid valid xs = AllByRecursion (λ x. valid x ≡ true) xs
 
 -- e is one of xs, and none of them is below it but itself
 abbrev pub Minimal : {V : Type 0} → (V → V → Bool) → List V → V → Type 0

@@ -1,9 +1,11 @@
 -- The laws of rows as lists, and the turns of the loop of `union`.
-use Rattle.std.specs.Prelude.{◌≡◌, ℕ, zero, suc, ◌+◌, ◌<◌, ◌≤◌, true, false, cond, List, [], ◌∷◌, ◌++◌, length, take, drop, ◌==◌, ◌≢◌, slice_index, slice_set, refl}
+use Rattle.std.specs.Prelude.{◌≡◌, ℕ, zero, suc, ◌+◌, ◌<◌, ◌≤◌, true, false, cond, List, [], ◌∷◌, ◌++◌, length, take, drop, Decides, ◌==◌, nat_eq, ◌≢◌, slice_index, slice_set, refl}
 use Rattle.std.proofs.Common.{append-nil, sym, ap, ◌∙◌, add-one, arith}
 use Rattle.std.proofs.lemmas.List.{take_all, drop_all, set-get_or}
 use Rattle.std.proofs.lemmas.Bool.{false≢true, true≢false, eq-eqb, ne_eqb}
-use Rattle.std.proofs.lemmas.Bool.Decides.{nat_tests}
+use Rattle.std.proofs.lemmas.Bool.Decides.{Decides-eqb, nat_tests}
+use Rattle.std.proofs.lemmas.Slice.Eq.{slice_eq-Decides}
+use Rattle.std.specs.Cmp.Lexicographic.{pointwise}
 use Rattle.rows.specs.Rows.{contains, compatible, union, earlier, SaysBoth}
 use Rattle.rows.specs.declared.row.Row.{Row}
 
@@ -80,3 +82,9 @@ module _ (xs ys zs : List ℕ) (i : ℕ) (is : zs ≡ union (take i xs) (take i 
 -- a row is its choices
 pub row_same : (r s : Row) → r.choices ≡ s.choices → r ≡ s
 row_same r s e = ap (λ (cs : List ℕ). let t : Row = record { choices = cs } in t) e
+
+-- and the test of its choices tells whether two rows are the same
+pub rows_decided : (r s : Row) → Decides (pointwise nat_eq r.choices s.choices) (r ≡ s)
+rows_decided r s =
+    let d = slice_eq-Decides Decides-eqb r.choices s.choices (pointwise nat_eq r.choices s.choices) refl in
+    (λ t. row_same r s (d.0 t), λ e. d.1 (ap (λ (q : Row). q.choices) e))

@@ -47,10 +47,10 @@ impl<'a, T: Ordered> Antichain<'a, T> {
 
     /// Puts `x` to what is held, as `put` does in a slice.
     pub fn put(&mut self, x: T) -> Result<(), Full>
-        ensures defined { told result (listed self.new) ≡ kept below before (room self.old) (listed self.old) x }
+        ensures defined { told result (listed self.new) ≡ kept T.below T.before (room self.old) (listed self.old) x }
         ensures room { room self.new ≡ room self.old }
         ensures refused { OnErr result (self.new ≡ self.old) }
-        ensures same { covered below (listed self.old) x ≡ true → self.new.items.now ≡ self.old.items.now }
+        ensures same { covered T.below (listed self.old) x ≡ true → self.new.items.now ≡ self.old.items.now }
         ensures past { AlikePast self.old self.new }
         ensures lent { self.new.items.ghost_name ≡ self.old.items.ghost_name }
     {

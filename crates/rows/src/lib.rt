@@ -1,4 +1,6 @@
 //! Rows, and lists of elements of which none is below another.
+#![tactic(auto)]
+
 mod antichain;
 mod list;
 mod ordered;

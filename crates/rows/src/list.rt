@@ -10,7 +10,7 @@ pub struct Full;
 
 /// Whether one of `held` is at or below `x`.
 pub fn covers<T: Ordered>(held: &[T], x: &T) -> bool
-    ensures { result ≡ covered below held.now x.now }
+    ensures { result ≡ covered T.below held.now x.now }
 {
     for y in held {
         if y.at_or_below(x) {
@@ -23,8 +23,8 @@ pub fn covers<T: Ordered>(held: &[T], x: &T) -> bool
 /// The place of the first of `held` that `x` is at or below, or their number.
 fn first_above<T: Ordered>(held: &[T], x: &T) -> usize
     ensures within { result ≤ length held.now }
-    ensures stay { spared below x.now (take result held.now) ≡ take result held.now }
-    ensures above { result < length held.now → below x.now (slice_index_or held.now result x.now) ≡ true }
+    ensures stay { spared T.below x.now (take result held.now) ≡ take result held.now }
+    ensures above { result < length held.now → T.below x.now (slice_index_or held.now result x.now) ≡ true }
 {
     for (i, y) in held.iter().enumerate() {
         if x.at_or_below(y) {
@@ -38,9 +38,9 @@ fn first_above<T: Ordered>(held: &[T], x: &T) -> usize
 /// The first `from` are known to stay. What the places between the new count and the old hold is left open.
 fn remove_above<T: Ordered>(items: &mut [T], from: usize, held: usize, x: &T) -> usize
     requires within { (from ≤ held) × (held ≤ length items.old) }
-    requires stay { spared below x.now (take from items.old) ≡ take from items.old }
-    ensures front { take result items.new ≡ spared below x.now (take held items.old) }
-    ensures count { result ≡ length (spared below x.now (take held items.old)) }
+    requires stay { spared T.below x.now (take from items.old) ≡ take from items.old }
+    ensures front { take result items.new ≡ spared T.below x.now (take held items.old) }
+    ensures count { result ≡ length (spared T.below x.now (take held items.old)) }
     ensures less { result ≤ held }
     ensures past { drop held items.new ≡ drop held items.old }
 {
@@ -57,7 +57,7 @@ fn remove_above<T: Ordered>(items: &mut [T], from: usize, held: usize, x: &T) ->
 /// The place of the first of `held` that `x` precedes, or their number.
 fn place<T: Ordered>(held: &[T], x: &T) -> usize
     ensures within { result ≤ length held.now }
-    ensures there { placed before x.now held.now ≡ insert held.now result x.now }
+    ensures there { placed T.before x.now held.now ≡ insert held.now result x.now }
 {
     for (i, y) in held.iter().enumerate() {
         if x.precedes(y) {
@@ -86,9 +86,9 @@ fn insert<T: Copy>(items: &mut [T], held: usize, at: usize, x: T) -> usize
 /// Refused where that would be more than `items` has places; then nothing changes.
 /// A `held` past the end counts as the number of places. What the places between the new count and the old hold is left open.
 pub fn put<T: Ordered>(items: &mut [T], held: usize, x: T) -> Result<usize, Full>
-    ensures defined { shown result items.new ≡ kept below before (length items.old) (take held items.old) x }
+    ensures defined { shown result items.new ≡ kept T.below T.before (length items.old) (take held items.old) x }
     ensures refused { OnErr result (items.new ≡ items.old) }
-    ensures same { covered below (take held items.old) x ≡ true → items.new ≡ items.old }
+    ensures same { covered T.below (take held items.old) x ≡ true → items.new ≡ items.old }
     ensures fits { IfOk result (λ n. n ≤ length items.old) }
     ensures past { IfOk result (λ n. drop (max held n) items.new ≡ drop (max held n) items.old) }
 {

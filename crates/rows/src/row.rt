@@ -1,8 +1,9 @@
-ghost use Rattle.std.specs.Prelude.{◌≡◌, true, replicate, Decides, slice_set};
+ghost use Rattle.std.specs.Prelude.{◌≡◌, true, replicate, Decides, nat_eq, slice_set};
 ghost use Rattle.rows.specs.Rows.{contains, compatible, union, earlier, SaysBoth};
 ghost use Rattle.std.specs.Cmp.Rules.{comparing};
 ghost use Rattle.std.proofs.Common.{rules};
-ghost use Rattle.std.specs.Cmp as Keys;
+ghost use Rattle.std.specs.Cmp.{partial_equiv_from_equiv};
+ghost use Rattle.std.specs.Cmp.Lexicographic.{pointwise};
 
 /// The number of alternatives.
 pub const PLACES: usize = 16;
@@ -14,11 +15,14 @@ pub struct Row {
 }
 
 impl PartialEq for Row {
-    ghost equals = { λ x y r. Decides r (x ≡ y) };
+    ghost eq = { λ x y. pointwise nat_eq x.choices y.choices };
 
-    ghost laws = { Keys.partial_equiv_from_equiv (Prim.search (comparing, rules)) };
+    ghost laws = { partial_equiv_from_equiv (Prim.search (comparing, rules)) };
 
-    fn eq(&self, other: &Row) -> bool {
+    fn eq(&self, other: &Row) -> bool
+        ensures value { result ≡ pointwise nat_eq self.now.choices other.now.choices }
+        ensures equal { Decides result (self.now ≡ other.now) }
+    {
         self.choices == other.choices
     }
 }

@@ -8,7 +8,7 @@ use crate::{Antichain, Full, Ordered, Row};
 /// Puts each of `from`, one after another, to the first `held` of `into`, and says how many are held then.
 /// Refused exactly where one of the puts is.
 pub fn put_each<T: Ordered>(from: &[T], into: &mut [T], held: usize) -> Result<usize, Full>
-    ensures defined { shown result into.new ≡ kept_all below before (length into.old) (take held into.old) from.now }
+    ensures defined { shown result into.new ≡ kept_all T.below T.before (length into.old) (take held into.old) from.now }
     ensures fits { IfOk result (λ n. n ≤ length into.old) }
     ensures past { drop (held + length from.now) into.new ≡ drop (held + length from.now) into.old }
 {
@@ -22,12 +22,12 @@ pub fn put_each<T: Ordered>(from: &[T], into: &mut [T], held: usize) -> Result<u
 /// Puts each of `from`, one after another, to an empty list in the front of `into`, and says how many are held then.
 /// Refused exactly where one of the puts is.
 pub fn put_all<T: Ordered>(from: &[T], into: &mut [T]) -> Result<usize, Full>
-    ensures defined { shown result into.new ≡ kept_all below before (length into.old) [] from.now }
+    ensures defined { shown result into.new ≡ kept_all T.below T.before (length into.old) [] from.now }
     ensures fits { IfOk result (λ n. n ≤ length into.old) }
     ensures past { drop (length from.now) into.new ≡ drop (length from.now) into.old }
-    ensures minimal { AllValid valid from.now → IfOk result (λ n. Minimals below before from.now (take n into.new)) }
-    ensures covering { AllValid valid from.now → IfOk result (λ n. CoversAlike valid below from.now (take n into.new)) }
-    ensures unordered { AllValid valid from.now → IfOk result (λ n. InAnyOrder below before from.now (take n into.new)) }
+    ensures minimal { AllValid T.valid from.now → IfOk result (λ n. Minimals T.below T.before from.now (take n into.new)) }
+    ensures covering { AllValid T.valid from.now → IfOk result (λ n. CoversAlike T.valid T.below from.now (take n into.new)) }
+    ensures unordered { AllValid T.valid from.now → IfOk result (λ n. InAnyOrder T.below T.before from.now (take n into.new)) }
 {
     put_each(from, into, 0)
 }

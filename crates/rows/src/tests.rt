@@ -23,10 +23,10 @@ impl Ordered for Word {
     ghost orders = { record {
       itself = λ x _. Prim.grind (arith, nat_tests);
       through = λ x y z _ _ _ p q. Prim.grind (arith, nat_tests);
-      same = λ x y u v p q. word_same x y (Prim.grind (arith, nat_tests)) (Prim.grind (arith, nat_tests)) (Prim.grind (arith, nat_tests)) (Prim.grind (arith, nat_tests)) (Prim.grind (arith, nat_tests));
+      same = λ x y u v p q. word_same (λ n ls. record { len = n; letters = ls }) x.len y.len x.letters y.letters (Prim.grind (arith, nat_tests)) (Prim.grind (arith, nat_tests)) (Prim.grind (arith, nat_tests)) (Prim.grind (arith, nat_tests)) (Prim.grind (arith, nat_tests));
       apart = λ x _. Prim.grind (arith, nat_tests);
       onward = λ x y z _ _ _ p q. Prim.grind (arith, nat_tests);
-      total = λ x y u v p q. word_same x y (Prim.grind (arith, nat_tests)) (Prim.grind (arith, nat_tests)) (Prim.grind (arith, nat_tests)) (Prim.grind (arith, nat_tests)) (Prim.grind (arith, nat_tests));
+      total = λ x y u v p q. word_same (λ n ls. record { len = n; letters = ls }) x.len y.len x.letters y.letters (Prim.grind (arith, nat_tests)) (Prim.grind (arith, nat_tests)) (Prim.grind (arith, nat_tests)) (Prim.grind (arith, nat_tests)) (Prim.grind (arith, nat_tests));
     } };
 
     fn at_or_below(&self, other: &Word) -> bool {

@@ -8,8 +8,8 @@ loop-y-preserved g c =
     let step = at_drop_more (λ ys. covered g.T.Ordered.below ys c.args.x.now) c.args.held.now c.loop-y.y-index c.y-item.result c.loop-y-test.true in
     grind arith
 
-pub returns-then-at-or-below : goal.returns-then-at-or-below
-returns-then-at-or-below g c =
+pub returns-then-at_or_below : goal.returns-then-at_or_below
+returns-then-at_or_below g c =
     let step = at_drop_more (λ ys. covered g.T.Ordered.below ys c.args.x.now) c.args.held.now c.loop-y.y-index c.y-item.result c.loop-y-test.true in
     grind arith
 

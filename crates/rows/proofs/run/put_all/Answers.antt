@@ -1,5 +1,4 @@
-use Rattle.std.proofs.Common.{◌≡◌, List, [], length, drop, subst, zero-add}
-use Rattle.rows.specs.Keeping.{kept_all}
+use Rattle.std.proofs.Common.{◌≡◌, length, drop, subst, zero-add}
 use Rattle.rows.specs.Minimal.{Minimals, CoversAlike, InAnyOrder}
 use Rattle.rows.proofs.Kept.{run_minimal, run_covers, run_any_order}
 use Rattle.rows.proofs.Puts.{shown_cases}
@@ -11,9 +10,9 @@ returns g c =
     let laws = g.met.T.Ordered.orders in
     let from = c.args.from.now in
     let limit = length c.args.into.now in
-    let run = c.put-each.ensures in
-    let r = c.put-each.result in
-    let after = c.put-each.new.into in
+    let run = c.put_each.ensures in
+    let r = c.put_each.result in
+    let after = c.put_each.new.into in
     record {
       defined = run.defined;
       fits = run.fits;

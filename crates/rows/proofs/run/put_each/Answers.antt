@@ -15,7 +15,7 @@ loop-x-init g c =
 pub loop-x-preserved : goal.loop-x-preserved
 loop-x-preserved g c =
     let m = g.T.Ordered in
-    let put = c.in-ok-put.ensures in
+    let put = c.in_ok-put.ensures in
     let first = c.holding-list.result in
     let grows = kept_grows m.below m.before (room c.loop-x.list) (listed c.loop-x.list) c.x-item.result (listed c.put.new.self) put.defined in
     let past = past_more (length (listed c.loop-x.list)) (length (listed c.put.new.self)) (c.args.held + c.loop-x.x-index) first.items.now c.loop-x.list.items.now c.put.new.self.items.now c.loop-x.invariant.3 grows put.past c.loop-x.invariant.4 in (
@@ -27,11 +27,11 @@ loop-x-preserved g c =
       subst (λ n. drop n c.put.new.self.items.now ≡ drop n first.items.now) (add_assoc c.args.held c.loop-x.x-index 1) past,
     )
 
-pub returns-in-err-put : goal.returns-in-err-put
-returns-in-err-put g c =
+pub returns-in_err-put : goal.returns-in_err-put
+returns-in_err-put g c =
     let m = g.T.Ordered in
-    let put = c.in-err-put.ensures in
-    let p = err_from_is_err_and c.from-residual.result c.from-residual.ensures.1 in
+    let put = c.in_err-put.ensures in
+    let p = err_from_is_err_and c.from_residual.result c.from_residual.ensures.1 in
     let last = c.args.held + length c.args.from.now in
     let past : drop last c.put.new.self.items.now ≡ drop last c.holding-list.result.items.now =
     ap (λ items. drop last items) (ap (λ l. l.items.now) put.refused)
