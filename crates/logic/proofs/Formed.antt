@@ -1,7 +1,7 @@
 -- Well-formed rows and worlds, place by place: the empty row, the row of one choice, and unions.
 use Rattle.std.proofs.Common.{◌≡◌, ℕ, zero, suc, ◌<◌, ◌≤◌, Bool, true, false, cond, ◌&&◌, ◌||◌, eqb, [], ◌∷◌, length, get_or, refl, ap, ◌∙◌, inl, inr, arith}
 use mathlib.Core.Bool.{and-true}
-use Rattle.std.specs.List.{AllByRecursion as All}
+use Rattle.std.specs.List.{AllByRecursion}
 use Rattle.std.proofs.lemmas.Bool.{false≢true}
 use Rattle.rows.specs.Minimal.{Among}
 use Rattle.rows.specs.Rows.{contains, union}
@@ -37,7 +37,7 @@ union_formed (o ∷ os) (x ∷ xs) (y ∷ ys) f g = (pick (eqb x 0), union_forme
     pick false = f.0
 
 -- what holds at one place
-pub place_sound : (os : Options) (place : ℕ) → SoundOptions os → All (λ n. 0 < n) (get_or os place [])
+pub place_sound : (os : Options) (place : ℕ) → SoundOptions os → AllByRecursion (λ n. 0 < n) (get_or os place [])
 place_sound [] place b = tt
 place_sound (o ∷ os) zero b = b.0
 place_sound (o ∷ os) (suc place) b = place_sound os place b.1

@@ -1,6 +1,6 @@
 -- The rows of a choice.
 use Rattle.std.proofs.Common.{◌≡◌, ℕ, ◌<◌, ◌≤◌, Bool, true, false, cond, ◌||◌, eqb, List, [], ◌∷◌, map, length, get_or, filter, sym, refl, ap, ◌∙◌, subst, inl, inr, arith}
-use Rattle.std.specs.List.{AllByRecursion as All}
+use Rattle.std.specs.List.{AllByRecursion}
 use Rattle.std.proofs.lemmas.Bool.{or_left, or_right, eq-eqb}
 use Rattle.std.proofs.lemmas.Bool.Decides.{nat_tests}
 use Rattle.rows.specs.Keeping.{covered}
@@ -40,7 +40,7 @@ module _ (os : Options) (place : ℕ) (p : ℕ → Bool) where
   unfolding rows_at
   rows_at_covers b w v = go (get_or os place []) (place_sound os place b) (place_taken os w place v) (λ n i. alone_contains os w place n (world_empty os w v) (place_below os place n i))
     where
-      free : (o : List ℕ) → All (λ n. 0 < n) o → Among o (get_or w place 0) → ((n : ℕ) → Among o n → contains w (alone os place n) ≡ (eqb n 0 || eqb (get_or w place 0) n))
+      free : (o : List ℕ) → AllByRecursion (λ n. 0 < n) o → Among o (get_or w place 0) → ((n : ℕ) → Among o n → contains w (alone os place n) ≡ (eqb n 0 || eqb (get_or w place 0) n))
           → covered under (map (alone os place) (filter p o)) w ≡ p (get_or w place 0)
       free o s t c = same_tests _ _
           (λ h.
@@ -57,7 +57,7 @@ module _ (os : Options) (place : ℕ) (p : ℕ → Bool) where
             c (get_or w place 0) t ∙ or_right (eqb (get_or w place 0) 0) _ (eq-eqb (get_or w place 0) (get_or w place 0) refl),
           ))
 
-      go : (o : List ℕ) → All (λ n. 0 < n) o → Taken o (get_or w place 0) → ((n : ℕ) → Among o n → contains w (alone os place n) ≡ (eqb n 0 || eqb (get_or w place 0) n))
+      go : (o : List ℕ) → AllByRecursion (λ n. 0 < n) o → Taken o (get_or w place 0) → ((n : ℕ) → Among o n → contains w (alone os place n) ≡ (eqb n 0 || eqb (get_or w place 0) n))
           → covered under (rows_at os place p o) w ≡ p (get_or w place 0)
       go [] s t c = covers_all_or_none os (p 0) w v ∙ ap p (sym t)
       go (n ∷ []) s (inl t) c = covers_all_or_none os (p n) w v ∙ ap p t

@@ -1,6 +1,6 @@
 -- Worlds that contain a row, and the row of a world.
 use Rattle.std.proofs.Common.{◌≡◌, ℕ, ◌<◌, Bool, true, false, cond, ◌||◌, eqb, List, [], ◌∷◌, sym, refl, ap, ◌∙◌, ap₂, inl, inr, ⊎_elim, arith}
-use Rattle.std.specs.List.{AllByRecursion as All}
+use Rattle.std.specs.List.{AllByRecursion}
 use Rattle.std.proofs.lemmas.Bool.{false≢true, both_ways, and_parts, and_from, cases_Bool}
 use Rattle.std.proofs.lemmas.Bool.Decides.{nat_tests}
 use Rattle.rows.specs.Keeping.{covered}
@@ -102,7 +102,7 @@ core_contained [] (x ∷ xs) v = absurd v
 core_contained (o ∷ os) [] v = absurd v
 core_contained (o ∷ os) (x ∷ xs) v = and_from _ _ (freely_agrees o x) (core_contained os xs v.1)
 
-freely_decides : (o : List ℕ) (x y : ℕ) → All (λ n. 0 < n) o → Taken o x → Taken o y → (eqb (freely o x) 0 || eqb y (freely o x)) ≡ true → y ≡ x
+freely_decides : (o : List ℕ) (x y : ℕ) → AllByRecursion (λ n. 0 < n) o → Taken o x → Taken o y → (eqb (freely o x) 0 || eqb y (freely o x)) ≡ true → y ≡ x
 freely_decides [] x y b t s h = s ∙ sym t
 freely_decides (n ∷ []) x y b (inl t) (inl s) h = sym s ∙ t
 freely_decides (n ∷ []) x y b (inl t) (inr s) h = absurd s

@@ -1,6 +1,6 @@
 -- What a world may choose at each place, the worlds, and the rows that are made of such choices.
 use Rattle.std.specs.Prelude.{◌≡◌, ℕ, ◌<◌, ◌≤◌, ◌⊎◌, List, [], ◌∷◌, length}
-use Rattle.std.specs.List.{AllByRecursion as All}
+use Rattle.std.specs.List.{AllByRecursion}
 use Rattle.rows.specs.Minimal.{Among}
 
 -- one number for each place: 0 where it is untouched, otherwise the choice made there
@@ -13,7 +13,7 @@ Options = List (List ℕ)
 
 -- every option is above 0, since 0 says that a place is untouched
 abbrev pub SoundOptions : Options → Type 0
-SoundOptions os = All (λ o. All (λ n. 0 < n) o) os
+SoundOptions os = AllByRecursion (λ o. AllByRecursion (λ n. 0 < n) o) os
 
 -- x is one of the options, or 0 where there is none
 abbrev pub Taken : List ℕ → ℕ → Type 0
@@ -39,4 +39,4 @@ Formed (o ∷ os) [] = ⊥
 Formed (o ∷ os) (x ∷ xs) = OpenChoice o x × Formed os xs
 
 abbrev pub AllFormed : Options → List Row → Type 0
-AllFormed os rows = All (Formed os) rows
+AllFormed os rows = AllByRecursion (Formed os) rows

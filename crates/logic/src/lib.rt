@@ -1,4 +1,6 @@
 //! What rules say in a world, and the minimal explanations of what they say. Each function is a theorem: its contract is the statement.
+#![tactic(auto)]
+
 ghost use Rattle.logic.specs.Atoms.{TableExplains, GoalExplains, ChoiceExplains};
 ghost use Rattle.logic.specs.Duals.{ConjoinedBoth, DualsMinimal, CommonWorld, OpposesWorlds, DualsDeny, DualsAffirm};
 ghost use Rattle.logic.specs.Examples.{Examples};
