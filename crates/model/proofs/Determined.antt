@@ -1,24 +1,20 @@
 -- A journal determines the session that agrees with it.
-use Rattle.std.proofs.Common.{◌≡◌, ℕ, ◌-◌, ◌≤◌, Bool, true, ◌&&◌, eqb, List, [], ◌∷◌, ◌++◌, map, length, take, drop, replicate, sym, refl, ap, ◌∙◌, subst, arith}
+use Rattle.std.proofs.Common.{◌≡◌, ℕ, ◌-◌, true, eqb, List, [], ◌∷◌, ◌++◌, map, length, take, drop, replicate, sym, refl, ap, ◌∙◌, arith}
 use Rattle.std.proofs.lemmas.List.{length-drop, length-take-le, take-append-drop}
 use Rattle.std.proofs.lemmas.Bool.{and_parts, eqb-true}
 use Rattle.std.proofs.lemmas.Bool.Decides.{nat_tests}
-use Rattle.rows.specs.Minimal.{Among}
 use Rattle.rows.proofs.Kept.{ascending_same}
 use Rattle.rows.proofs.Members.{all_among}
 use Rattle.model.specs.declared.alternative.Alternative.{Alternative}
 use Rattle.model.specs.declared.model.Model.{Model}
-use Rattle.model.specs.declared.rule.Rule.{Rule}
-use Rattle.model.specs.declared.suppositions.Suppositions.{Suppositions}
 use Rattle.model.specs.Alternatives.{weights_of, alternative_of, blank_alternative, zeros, canonical_alternative, canonical_alternatives}
 use Rattle.model.specs.Holding.{sizes_of}
-use Rattle.model.specs.Journal.{Journal, as_rule, Agrees}
 use Rattle.model.specs.Meaning.{Determined}
 use Rattle.model.specs.Models.{alternatives, rules}
 use Rattle.model.specs.Rules.{canonical, blank_rule}
 use Rattle.model.proofs.Declares.{alternatives_count}
 use Rattle.model.specs.Laws.{rule_orders}
-use Rattle.model.proofs.Same.{model_same}
+use Rattle.model.specs.Same.{model_same}
 use Rattle.model.proofs.States.{sound_valid}
 use Rattle.model.proofs.Supposes.{suppositions_same}
 use Rattle.model.proofs.Tables.{weights_count}

@@ -1,6 +1,6 @@
 -- What each call keeps between a journal and a session.
-use Rattle.std.proofs.Common.{◌≡◌, ℕ, zero, suc, ◌+◌, ◌-◌, ◌<◌, ◌≤◌, Bool, true, false, cond, ◌&&◌, ◌⊎◌, List, [], ◌∷◌, ◌++◌, map, length, get_or, set, replicate, is_ok, IfErr, Some, None, Ok, Err, Option, Result, sym, refl, ap, ◌∙◌, subst, inl, inr, ⊎_elim, arith, length-set}
-use Rattle.std.specs.List.{AllByRecursion as All}
+use Rattle.std.proofs.Common.{◌≡◌, ℕ, zero, suc, ◌+◌, ◌-◌, true, false, List, [], ◌∷◌, ◌++◌, map, length, get_or, set, replicate, is_ok, IfErr, Some, None, Ok, Err, Option, Result, sym, refl, ap, ◌∙◌, subst, inl, inr, arith, length-set}
+use Rattle.std.specs.List.{AllByRecursion}
 use Rattle.std.proofs.ByRecursion.{All-push, All-weaker}
 use Rattle.std.proofs.lemmas.List.{map_push, map-set, set-get_or}
 use Rattle.std.proofs.lemmas.Bool.{le-leb, cond-true}
@@ -14,7 +14,7 @@ use Rattle.model.specs.declared.refusal.Refusal.{Refusal}
 use Rattle.model.specs.declared.rule.Rule.{Rule}
 use Rattle.model.specs.declared.suppositions.Suppositions.{Suppositions}
 use Rattle.model.specs.Journal.{Stated, Journal, Call, declares, weighs, states, supposes, feed, as_rule, Taken, Agrees, fresh}
-use Rattle.model.specs.Judging.{is_atom, judge_head, judge_length, judge_literal, judge_from, judge_rule}
+use Rattle.model.specs.Judging.{judge_head, judge_length, judge_literal, judge_from, judge_rule}
 use Rattle.model.specs.Models.{alternatives, rules, sizes, declaring, reweighing, weighing, put_answer, judged, stating, outcome}
 use Rattle.model.specs.Refusals.{smaller}
 use Rattle.model.specs.Rules.{rule_below, rule_before, canonical, rule_of}
@@ -72,7 +72,7 @@ reweighed_sizes as' a c w =
     ∙ ap (set (sizes as') (a - 1)) (length-set (get_or as' (a - 1) []) (c - 1) w ∙ sym (get_or_length as' (a - 1)))
     ∙ set-get_or (sizes as') (a - 1) 0
 
-pub all_canonical : (as' : List (List ℕ)) (ss : List Stated) → All (Taken as') ss → AllValid canonical (map as_rule ss)
+pub all_canonical : (as' : List (List ℕ)) (ss : List Stated) → AllByRecursion (Taken as') ss → AllValid canonical (map as_rule ss)
 all_canonical as' [] h = tt
 all_canonical as' (s ∷ ss) h = (rule_canonical s.head s.body (judged_free (sizes as') s.head s.body h.0).short, all_canonical as' ss h.1)
 

@@ -3,7 +3,6 @@ pub mod Declares
 pub mod Determined
 pub mod Journals
 pub mod Meanings
-pub mod Same
 pub mod Sizes
 pub mod Soundness
 pub mod States

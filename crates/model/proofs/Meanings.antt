@@ -1,7 +1,7 @@
 -- What the rules of a journal, and those that a model holds, say of worlds.
-use Rattle.std.proofs.Common.{◌≡◌, ℕ, ◌-◌, ◌<◌, ◌≤◌, Bool, true, false, cond, not, ◌&&◌, eqb, leb, ◌⊎◌, ◌↔◌, List, [], ◌∷◌, ◌++◌, map, None, sym, refl, ap, ◌∙◌, subst, inl, inr, ⊎_elim, arith}
+use Rattle.std.proofs.Common.{◌≡◌, ℕ, ◌<◌, Bool, ◌⊎◌, List, map, None, sym, ap, ◌∙◌, subst, inl, inr, ⊎_elim, arith}
 use Rattle.std.proofs.lemmas.Bool.Decides.{nat_tests}
-use Rattle.rows.specs.Minimal.{Among, Minimals}
+use Rattle.rows.specs.Minimal.{Among}
 use Rattle.rows.proofs.Members.{all_among}
 use Rattle.logic.proofs.Members.{among_map, map_among}
 use Rattle.logic.proofs.Truths as truths
@@ -12,10 +12,10 @@ use Rattle.model.specs.declared.model.Model.{Model}
 use Rattle.model.specs.declared.rule.Rule.{Rule}
 use Rattle.model.specs.declared.suppositions.Suppositions.{Suppositions}
 use Rattle.model.specs.Journal.{Stated, Journal, as_rule, Taken, Agrees}
-use Rattle.model.specs.Judging.{is_declared, judge_literal}
+use Rattle.model.specs.Judging.{judge_literal}
 use Rattle.model.specs.Meaning.{meaning, stated_rule, held_rule, all_rules, held_rules, RulesLayered, HeldAlike}
 use Rattle.model.specs.Models.{rules, sizes}
-use Rattle.model.specs.Rules.{literals, as_set, rule_below, rule_before, rule_of}
+use Rattle.model.specs.Rules.{literals}
 use Rattle.rows.proofs.Pushes.{minimals_stand}
 use Rattle.model.proofs.Journals.{all_canonical}
 use Rattle.model.specs.Laws.{alike_same, below_parts, rule_orders}

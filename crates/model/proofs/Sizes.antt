@@ -1,5 +1,5 @@
 -- What a model takes, when more is declared.
-use Rattle.std.proofs.Common.{◌≡◌, ℕ, ◌+◌, ◌-◌, ◌<◌, ◌≤◌, Bool, true, false, cond, not, ◌&&◌, eqb, leb, List, [], ◌∷◌, ◌++◌, map, length, get_or, is_some, Some, None, Option, sym, refl, ap, ◌∙◌, subst, arith}
+use Rattle.std.proofs.Common.{◌≡◌, ℕ, ◌-◌, ◌<◌, true, not, ◌&&◌, List, [], ◌∷◌, ◌++◌, length, is_some, Some, None, Option, refl, ap, arith}
 use Rattle.std.proofs.lemmas.List.{get_or_append_left, length-append}
 use Rattle.std.proofs.lemmas.Bool.{and_parts, and_from}
 use Rattle.std.proofs.lemmas.Bool.Decides.{nat_tests}
@@ -7,7 +7,7 @@ use Rattle.model.specs.declared.literal.Literal.{Literal}
 use Rattle.model.specs.declared.refusal.Refusal.{Refusal}
 use Rattle.model.specs.declared.rule.Rule.{Rule}
 use Rattle.model.specs.Holding.{taken, sound_rule, sound_rules}
-use Rattle.model.specs.Judging.{is_atom, is_declared, judge_choice, judge_literal}
+use Rattle.model.specs.Judging.{is_atom, is_declared, judge_literal}
 use Rattle.model.specs.Rules.{literals, canonical}
 
 -- all that is declared by some sizes is declared by others

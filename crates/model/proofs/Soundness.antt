@@ -1,6 +1,6 @@
 -- What the rules of a model keep to.
 use Rattle.std.proofs.Common.{◌≡◌, ℕ, ◌<◌, true, not, List, [], ◌∷◌, map, take, is_some, Some, None, Option, sym, refl, subst, ⊎_elim, arith}
-use Rattle.std.specs.List.{AllByRecursion as All}
+use Rattle.std.specs.List.{AllByRecursion}
 use Rattle.std.proofs.lemmas.Bool.{and_parts, and_from, or_cases}
 use Rattle.rows.specs.Minimal.{Among}
 use Rattle.rows.proofs.Members.{all_among}
@@ -45,7 +45,7 @@ sound_taken ns r h =
       each = λ l k. taken_each ns r.head (literals r) b.1 l (and_from _ _ (among_covered (literals r) l k) refl);
     })
 
-pub all_taken : (ns : List ℕ) (rs : List Rule) → sound_rules ns rs ≡ true → All (λ r. judge_rule ns r.head (literals r) ≡ None) rs
+pub all_taken : (ns : List ℕ) (rs : List Rule) → sound_rules ns rs ≡ true → AllByRecursion (λ r. judge_rule ns r.head (literals r) ≡ None) rs
 all_taken ns [] h = tt
 all_taken ns (r ∷ rs) h = let both = and_parts (sound_rule ns r) (sound_rules ns rs) h in (sound_taken ns r both.0, all_taken ns rs both.1)
 

@@ -1,13 +1,13 @@
 -- One rule more among those that a model holds.
-use Rattle.std.proofs.Common.{◌≡◌, ℕ, zero, suc, ◌+◌, ◌-◌, ◌<◌, ◌≤◌, Bool, true, false, cond, not, ◌&&◌, eqb, ltb, leb, ◌⊎◌, List, [], ◌∷◌, ◌++◌, length, take, drop, replicate, is_some, Some, None, Option, sym, refl, ap, ◌∙◌, subst, inl, inr, ⊎_elim, arith}
+use Rattle.std.proofs.Common.{◌≡◌, ℕ, zero, suc, ◌+◌, ◌-◌, ◌≤◌, Bool, true, false, cond, not, ltb, List, [], ◌∷◌, ◌++◌, length, replicate, is_some, Some, None, Option, sym, refl, ap, ◌∙◌, subst, inl, inr, ⊎_elim, arith}
 use Rattle.std.proofs.lemmas.List.{take_at, drop_at, length-append, length-replicate}
-use Rattle.std.proofs.lemmas.Bool.{and_parts, and_from, le-leb, eq-eqb, cond-true, cond-false}
+use Rattle.std.proofs.lemmas.Bool.{and_parts, and_from, le-leb, eq-eqb}
 use Rattle.std.proofs.lemmas.Bool.Decides.{nat_tests}
 use Rattle.rows.specs.Keeping.{kept, kept_all}
 use Rattle.rows.specs.Minimal.{Among, AllValid, Ascending, Minimals}
-use Rattle.rows.proofs.Kept.{Stands, run_minimal, stands_next}
+use Rattle.rows.proofs.Kept.{run_minimal}
 use Rattle.rows.proofs.Members.{all_among, all_from_among, among_push}
-use Rattle.rows.proofs.Pushes.{minimals_stand, minimals_push, minimals_settled, kept_all_some, kept_all_fits, kept_fits}
+use Rattle.rows.proofs.Pushes.{minimals_push, minimals_settled, kept_all_some, kept_all_fits, kept_fits}
 use Rattle.model.specs.declared.literal.Literal.{Literal}
 use Rattle.model.specs.declared.refusal.Refusal.{Refusal}
 use Rattle.model.specs.declared.rule.Rule.{Rule}
@@ -16,8 +16,8 @@ use Rattle.model.specs.Judging.{is_atom, judge_head, judge_length, judge_literal
 use Rattle.model.specs.Literals.{alike, sooner, blank_literal}
 use Rattle.model.specs.Models.{sizes, judged, put_answer, stating}
 use Rattle.model.specs.Refusals.{number, smaller}
-use Rattle.model.specs.Rules.{literals, rule_below, rule_before, leads, ascends, blank, canonical, listing, as_set, minimal_rules, tabled, rule_of}
-use Rattle.model.specs.Laws.{literal_orders, rule_orders, alike_itself}
+use Rattle.model.specs.Rules.{literals, rule_below, rule_before, leads, ascends, blank, canonical, listing, as_set, minimal_rules, rule_of}
+use Rattle.model.specs.Laws.{literal_orders, rule_orders}
 
 -- nothing is refused only where none of the refusals is met
 pub smaller_none : (a b : Option Refusal) → smaller a b ≡ None → (a ≡ None) × (b ≡ None)

@@ -1,13 +1,13 @@
 -- The table of a model's alternatives, read and written at one place.
-use Rattle.std.proofs.Common.{◌≡◌, ℕ, zero, suc, ◌+◌, ◌-◌, ◌<◌, ◌≤◌, Bool, true, false, cond, ◌&&◌, eqb, leb, List, [], ◌∷◌, ◌++◌, map, length, get_or, take, drop, set, replicate, Ok, sym, refl, ap, ◌∙◌, subst, arith}
+use Rattle.std.proofs.Common.{◌≡◌, ℕ, zero, suc, ◌-◌, ◌<◌, ◌≤◌, true, List, [], ◌∷◌, map, length, get_or, take, set, sym, refl, ap, ◌∙◌, arith}
 use Rattle.std.proofs.lemmas.List.{length-set, length-map, length-take-le, get_or-map, get_or-take, map-set, set-get_or, drop-set-lt}
-use Rattle.std.proofs.lemmas.Bool.{and_parts, and_from, cond-true, eqb-true, eq-eqb, leb-true}
+use Rattle.std.proofs.lemmas.Bool.{and_parts, and_from}
 use Rattle.std.proofs.lemmas.Bool.Decides.{nat_tests}
 use Rattle.model.specs.declared.alternative.Alternative.{Alternative}
 use Rattle.model.specs.Alternatives.{weights_of, zeros, canonical_alternative, canonical_alternatives}
 use Rattle.model.specs.Holding.{sizes_of}
 use Rattle.model.specs.Judging.{is_declared}
-use Rattle.model.specs.Models.{sizes, weighing, reweighing}
+use Rattle.model.specs.Models.{sizes}
 
 -- what stands past the end of a table
 abbrev pub nowhere : Alternative

@@ -1,6 +1,6 @@
 -- The journal of a session: what its calls add up to. No code holds it.
 use Rattle.std.specs.Prelude.{◌≡◌, ℕ, Bool, true, false, List, [], ◌∷◌, ◌++◌, map, replicate, None}
-use Rattle.std.specs.List.{AllByRecursion as All}
+use Rattle.std.specs.List.{AllByRecursion}
 use Rattle.rows.specs.Minimal.{Minimals}
 use Rattle.model.specs.declared.literal.Literal.{Literal}
 use Rattle.model.specs.declared.model.Model.{Model}
@@ -67,6 +67,6 @@ Taken as' s = judge_rule (sizes as') s.head s.body ≡ None
 -- and the suppositions are the same
 pub record Agrees (j : Journal) (m : Model) (s : Suppositions) : Type 0 where
   pub declared : alternatives m ≡ j.declared
-  pub taken : All (Taken j.declared) j.stated
+  pub taken : AllByRecursion (Taken j.declared) j.stated
   pub held : Minimals rule_below rule_before (map as_rule j.stated) (rules m)
   pub supposed : s.choices ≡ j.supposed

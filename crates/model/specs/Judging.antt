@@ -1,5 +1,5 @@
 -- Which literals and bodies a model takes. `sizes` are the numbers of choices of the alternatives, in order.
-use Rattle.std.specs.Prelude.{ℕ, ◌+◌, ◌-◌, Bool, true, false, cond, not, ◌&&◌, ◌||◌, List, [], ◌∷◌, length, Some, None, Option, ◌==◌, nat_le, slice_index}
+use Rattle.std.specs.Prelude.{ℕ, ◌+◌, ◌-◌, Bool, true, cond, not, ◌&&◌, ◌||◌, List, [], ◌∷◌, length, Some, None, Option, ◌==◌, nat_le, slice_index}
 use Rattle.model.specs.declared.literal.Literal.{Literal}
 use Rattle.model.specs.declared.refusal.Refusal.{Refusal}
 use Rattle.model.specs.declared.refusal.Refusal.TheVariants.{NoAtom, NumberOfLiterals, NoLiteral, NotLower, ShortSpace, NotDeclared, ForeignSupposition}

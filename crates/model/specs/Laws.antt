@@ -1,5 +1,5 @@
 -- The orders of literals and of rules.
-use Rattle.std.specs.Prelude.{◌≡◌, ℕ, zero, suc, ◌+◌, ◌-◌, ◌<◌, ◌≤◌, Bool, true, false, ◌&&◌, ◌⊎◌, List, [], ◌∷◌, ◌++◌, length, drop, replicate, ◌==◌, nat_le, refl}
+use Rattle.std.specs.Prelude.{◌≡◌, ℕ, ◌-◌, ◌≤◌, true, List, [], ◌∷◌, ◌++◌, length, drop, replicate, ◌==◌, nat_le, refl}
 use Rattle.std.proofs.Common.{inl, inr, ⊎_elim, sym, ap, subst, ◌∙◌, arith}
 use Rattle.std.specs.List.{flat_map}
 use Rattle.std.proofs.lemmas.List.{length-take-le, length-drop, take-append-drop}
@@ -8,7 +8,6 @@ use Rattle.std.proofs.lemmas.Bool.Decides.{nat_tests}
 use Rattle.rows.specs.Keeping.{covered}
 use Rattle.rows.specs.Minimal.{Among, Ascending}
 use Rattle.rows.specs.Orders.{Orders}
-use Rattle.rows.specs.Rows.{earlier}
 use Rattle.rows.proofs.Kept.{ascending_same}
 use Rattle.rows.proofs.Members.{covered_some, covered_by}
 use Rattle.rows.specs.RowLaws.{earlier_apart, earlier_onward, earlier_total}

@@ -1,4 +1,5 @@
 pub mod Alternatives
+pub mod Equality
 pub mod Holding
 pub mod Journal
 pub mod Judging
@@ -9,3 +10,5 @@ pub mod Refusals
 pub mod Rules
 pub mod Supposed
 pub mod Laws
+pub mod Same
+pub mod EqualityLaws

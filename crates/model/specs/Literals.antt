@@ -1,5 +1,5 @@
 -- Literals as given, and how they are ordered.
-use Rattle.std.specs.Prelude.{ℕ, Bool, true, ◌&&◌, List, [], ◌∷◌, ◌==◌}
+use Rattle.std.specs.Prelude.{ℕ, Bool, ◌&&◌, List, [], ◌∷◌, ◌==◌}
 use Rattle.rows.specs.Rows.{earlier}
 use Rattle.model.specs.declared.literal.Literal.{Literal}
 

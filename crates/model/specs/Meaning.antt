@@ -1,5 +1,5 @@
 -- What a journal says of worlds: which total choices there are, and what holds in them.
-use Rattle.std.specs.Prelude.{◌≡◌, ℕ, zero, suc, ◌-◌, Bool, cond, List, [], ◌∷◌, ◌++◌, map, ◌==◌, slice_index}
+use Rattle.std.specs.Prelude.{◌≡◌, ℕ, zero, suc, ◌-◌, cond, List, [], ◌∷◌, ◌++◌, map, ◌==◌, slice_index}
 use Rattle.logic.specs.Options.{Row, Options, World}
 use Rattle.logic.specs.Rules as logic
 use Rattle.model.specs.declared.literal.Literal.{Literal}

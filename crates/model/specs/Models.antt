@@ -1,5 +1,5 @@
 -- What a model holds, and what each call makes of it.
-use Rattle.std.specs.Prelude.{ℕ, ◌-◌, Bool, true, false, cond, ◌&&◌, List, [], ◌∷◌, ◌++◌, map, length, take, Some, None, Ok, Err, Option, Result, nat_le, nat_lt, slice_index_or, slice_set}
+use Rattle.std.specs.Prelude.{ℕ, ◌-◌, cond, ◌&&◌, List, [], ◌∷◌, ◌++◌, map, length, take, Some, None, Ok, Err, Option, Result, nat_le, nat_lt, slice_index_or, slice_set}
 use Rattle.rows.specs.Keeping.{kept}
 use Rattle.model.specs.declared.literal.Literal.{Literal}
 use Rattle.model.specs.declared.model.Model.{Model}

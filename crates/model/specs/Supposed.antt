@@ -1,5 +1,5 @@
 -- Suppositions: for each alternative the choice at which it is supposed, or 0.
-use Rattle.std.specs.Prelude.{ℕ, ◌-◌, Bool, cond, ◌&&◌, List, Ok, Err, Result, ◌==◌, slice_index, slice_set}
+use Rattle.std.specs.Prelude.{ℕ, ◌-◌, cond, ◌&&◌, List, Ok, Err, Result, ◌==◌, slice_index, slice_set}
 use Rattle.model.specs.declared.refusal.Refusal.{Refusal}
 use Rattle.model.specs.declared.refusal.Refusal.TheVariants.{NotDeclared, AlreadySupposed}
 use Rattle.model.specs.Judging.{is_declared}

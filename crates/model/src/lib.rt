@@ -1,4 +1,6 @@
 //! Models of boards.
+#![tactic(auto)]
+
 mod alternative;
 mod calls;
 mod equality;

@@ -1,9 +1,9 @@
-ghost use Rattle.std.specs.Prelude.{◌≡◌, Bool, true, Decides, nat_eq};
-ghost use Rattle.std.specs.Ordering.{on, eq_of_both};
+ghost use Rattle.std.specs.Prelude.{◌≡◌, Bool, true, Decides};
 ghost use Rattle.model.specs.Literals.{alike, sooner};
 ghost use Rattle.std.specs.Cmp.Rules.{comparing};
 ghost use Rattle.std.proofs.Common.{rules};
-ghost use Rattle.std.specs.Cmp as Keys;
+ghost use Rattle.std.specs.Cmp.{partial_equiv_from_equiv};
+ghost use Rattle.model.specs.Equality.{equal_literals};
 ghost use Rattle.model.specs.Laws.{literal_orders};
 
 use rows::Ordered;
@@ -17,11 +17,14 @@ pub struct Literal {
 }
 
 impl PartialEq for Literal {
-    ghost eq = { eq_of_both (on (λ v. v.kind) nat_eq) (eq_of_both (on (λ v. v.first) nat_eq) (on (λ v. v.second) nat_eq)) };
+    ghost eq = { equal_literals };
 
-    ghost laws = { Keys.partial_equiv_from_equiv (Prim.search (comparing, rules)) };
+    ghost laws = { partial_equiv_from_equiv (Prim.search (comparing, rules)) };
 
-    fn eq(&self, other: &Literal) -> bool {
+    fn eq(&self, other: &Literal) -> bool
+        ensures value { result ≡ equal_literals self.now other.now }
+        ensures equal { Decides result (self.now ≡ other.now) }
+    {
         self.kind == other.kind && self.first == other.first && self.second == other.second
     }
 }

@@ -1,19 +1,24 @@
-ghost use Rattle.std.specs.Prelude.{◌≡◌, ℕ, ◌≤◌, true, List, [], ◌∷◌, replicate, is_ok, Decides, slice_index};
+ghost use Rattle.std.specs.Prelude.{◌≡◌, ℕ, ◌≤◌, true, List, [], ◌∷◌, replicate, is_ok, Decides, nat_eq, slice_index};
+ghost use Rattle.std.specs.Cmp.{partial_equiv_from_equiv};
+ghost use Rattle.std.specs.Cmp.Lexicographic.{pointwise};
 ghost use Rattle.model.specs.Journal.{Journal, Agrees, fresh, feed, checks, supposes, ends};
 ghost use Rattle.model.specs.Models.{alternatives, rules};
 ghost use Rattle.model.specs.Supposed.{checking, supposing};
 ghost use Rattle.std.specs.Cmp.Rules.{comparing};
-ghost use Rattle.std.proofs.Common.{rules};
+ghost use Rattle.std.proofs.Common.{rules as tries};
 
 use crate::model::ALTERNATIVES;
 use crate::{Model, Refusal, Suppositions};
 
 impl PartialEq for Suppositions {
-    ghost equals = { λ x y r. Decides r (x ≡ y) };
+    ghost eq = { λ x y. pointwise nat_eq x.choices y.choices };
 
-    ghost laws = { Prim.search (comparing, rules) };
+    ghost laws = { partial_equiv_from_equiv (Prim.search (comparing, tries)) };
 
-    fn eq(&self, other: &Suppositions) -> bool {
+    fn eq(&self, other: &Suppositions) -> bool
+        ensures value { result ≡ pointwise nat_eq self.now.choices other.now.choices }
+        ensures equal { Decides result (self.now ≡ other.now) }
+    {
         self.choices == other.choices
     }
 }

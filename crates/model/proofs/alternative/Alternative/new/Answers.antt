@@ -6,4 +6,4 @@ use Rattle.model.proofs.alternative.Alternative.new.Goals as goal
 pub returns : goal.returns
 returns c =
     let n = length c.args.weights.now in
-    alternative_copied c.args.weights.now c.copy-from-slice.new.self (n - 0) c.copy-from-slice.ensures.after (sub-zero n)
+    alternative_copied c.args.weights.now c.copy_from_slice.new.self (n - 0) c.copy_from_slice.ensures.after (sub-zero n)

@@ -1,11 +1,7 @@
-use Rattle.std.proofs.Common.{ap, rules}
-use Rattle.std.proofs.lemmas.Slice.Eq.{slice_eq-Decides}
-use Rattle.model.specs.declared.rule.Rule.{Rule}
-use Rattle.model.proofs.Same.{rule_fields_same}
+use Rattle.std.proofs.Common.{rules}
+use Rattle.model.specs.Equality.{equal_rules}
+use Rattle.model.specs.EqualityLaws.{rules_decided, told_by}
 use Rattle.model.proofs.equality.RulePartialEq.eq.Goals as goal
-use Rattle.std.proofs.lemmas.Bool.Decides.{Decides-eqb}
 
-pub returns-then-self-other-2 : goal.returns-then-self-other-2
-returns-then-self-other-2 c =
-    let d = slice_eq-Decides Decides-eqb c.args.self.now.body c.args.other.now.body c.eq.result c.eq.ensures in
-    (λ t. rule_fields_same _ _ (search rules) (search rules) (d.0 t), λ e. d.1 (ap (λ (r : Rule). r.body) e))
+pub returns-then-self-other-2-clause-equal : goal.returns-then-self-other-2-clause-equal
+returns-then-self-other-2-clause-equal c = told_by equal_rules rules_decided c.args.self.now c.args.other.now c.eq.result (search rules)

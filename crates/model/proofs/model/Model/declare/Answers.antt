@@ -1,4 +1,4 @@
-use Rattle.std.proofs.Common.{◌≡◌, ◌<◌, [], ◌∷◌, ◌++◌, map, length, take, Ok, sym, refl, ap, ◌∙◌, arith, length-set, rules}
+use Rattle.std.proofs.Common.{◌<◌, [], ◌∷◌, ◌++◌, map, take, Ok, refl, ap, ◌∙◌, arith, length-set}
 use Rattle.model.specs.Holding.{sizes_of, sound_rules}
 use Rattle.model.specs.Alternatives.{weights_of, canonical_alternative}
 use Rattle.model.proofs.Declares.{declaring_more, alternatives_count, canonical_more, alternative_canonical, unused_more, sizes_more, alternatives_more, weights_back}
@@ -6,25 +6,24 @@ use Rattle.model.proofs.Journals.{agrees_declares}
 use Rattle.model.proofs.Sizes.{one_wider, sound_wider}
 use Rattle.model.proofs.model.Model.declare.Goals as goal
 
-pub invariant-of-self : goal.invariant-of-self
-invariant-of-self c =
+pub invariant_of-self : goal.invariant_of-self
+invariant_of-self c =
     let m = c.args.self.now in
     let a = c.new.result in
     let room : m.declared < 16 = omega arith in
     let whole = ap canonical_alternative c.new.ensures ∙ alternative_canonical c.args.weights.now (omega arith) (omega arith) in
-    let wider = sound_wider (sizes_of (take m.declared m.alternatives)) (sizes_of (take m.declared m.alternatives) ++ (a.choices ∷ [])) (one_wider _ a.choices) (take m.held m.rules) m.sound in (
-      length-set m.alternatives m.declared a ∙ m.places,
-      (
-        omega arith,
-        (
-          canonical_more m.alternatives m.declared a m.places room m.canonical whole,
-          (
-            unused_more m.alternatives m.declared a m.places room m.unused,
-            (m.shelves, (m.within, (ap (λ s. sound_rules s (take m.held m.rules)) (sizes_more m.alternatives m.declared a m.places room) ∙ wider, (m.minimal, (m.unheld, tt))))),
-          ),
-        ),
-      ),
-    )
+    let wider = sound_wider (sizes_of (take m.declared m.alternatives)) (sizes_of (take m.declared m.alternatives) ++ (a.choices ∷ [])) (one_wider _ a.choices) (take m.held m.rules) m.sound in
+    record {
+      places = length-set m.alternatives m.declared a ∙ m.places;
+      few = omega arith;
+      canonical = canonical_more m.alternatives m.declared a m.places room m.canonical whole;
+      unused = unused_more m.alternatives m.declared a m.places room m.unused;
+      shelves = m.shelves;
+      within = m.within;
+      sound = ap (λ s. sound_rules s (take m.held m.rules)) (sizes_more m.alternatives m.declared a m.places room) ∙ wider;
+      minimal = m.minimal;
+      unheld = m.unheld;
+    }
 
 pub returns : goal.returns
 returns c =
