@@ -1,4 +1,6 @@
 //! Asks for the explanations of wide boards, and prints how many there are, the first of them, or the refusal.
+#![tactic(auto)]
+
 use anyhow::anyhow;
 use explain::{WORKSPACE, explain};
 use model::{Literal, Model, Refusal, Suppositions};

@@ -2,7 +2,7 @@
 use Rattle.std.proofs.Common.{◌≡◌, ℕ, ◌+◌, ◌-◌, ◌<◌, ◌≤◌, Bool, true, false, cond, List, [], ◌∷◌, ◌++◌, map, length, get_or, take, drop, Some, None, filter, Option, sym, refl, ap, ◌∙◌, arith}
 use Rattle.std.specs.Option.{option_map}
 use Rattle.std.proofs.lemmas.List.{at_drop_more, at_drop_all, length-take-le, take_at, take-map}
-use Rattle.rows.specs.Keeping.{kept, and_then, kept_all}
+use Rattle.rows.specs.Keeping.{kept, and_then}
 use Rattle.rows.specs.Rows.{compatible, union, earlier}
 use Rattle.rows.specs.Worlds.{inside, sooner}
 use Rattle.rows.specs.declared.row.Row.{Row}

@@ -1,7 +1,7 @@
 -- The atoms that a goal depends on are those that are marked for it.
-use Rattle.std.proofs.Common.{◌≡◌, ℕ, suc, ◌-◌, ◌<◌, ◌≤◌, Bool, true, false, cond, eqb, List, map, replicate, Option, sym, refl, ap, ◌∙◌, subst, ⊎_elim, arith}
+use Rattle.std.proofs.Common.{◌≡◌, ℕ, suc, ◌-◌, ◌<◌, ◌≤◌, Bool, true, false, cond, eqb, List, map, replicate, sym, refl, ap, ◌∙◌, subst, ⊎_elim, arith}
 use Rattle.std.proofs.lemmas.Bool.{cases_eq, both_ways, cond-true, cond-false, eq-eqb, ne_eqb}
-use Rattle.logic.specs.Atoms.{Lists, table}
+use Rattle.logic.specs.Atoms.{table}
 use Rattle.logic.specs.Needed.{needed}
 use Rattle.logic.specs.Options.{Options}
 use Rattle.logic.specs.Rules as logic

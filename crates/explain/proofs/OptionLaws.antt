@@ -1,6 +1,6 @@
 -- What a world may take at each place, for any sizes and any suppositions.
 use Rattle.std.proofs.Common.{◌≡◌, ℕ, zero, suc, ◌<◌, ◌≤◌, true, eqb, ltb, List, [], ◌∷◌, ◌++◌, length, get_or, sym, refl, ap, ◌∙◌, subst, inl, inr, ⊎_elim, arith}
-use Rattle.std.specs.List.{AllByRecursion as All}
+use Rattle.std.specs.List.{AllByRecursion}
 use Rattle.std.proofs.ByRecursion.{All-push, All-get_or}
 use Rattle.std.proofs.lemmas.List.{length-append, get_or_append_left, get_or_push, get_or_past}
 use Rattle.std.proofs.lemmas.Bool.{cases_lt, cases_eq, cond_both, eqb-false, lt-ltb}
@@ -63,16 +63,16 @@ module _ (ns supposed : List ℕ) where
         (λ none. free (get_or ns place 0))
         (λ some. let other = eqb-false choice 0 some in fixed choice (omega arith))
 
-    all_places : (n : ℕ) → All P (options_below ns supposed n)
+    all_places : (n : ℕ) → AllByRecursion P (options_below ns supposed n)
     all_places zero = tt
     all_places (suc n) = All-push P (options_below ns supposed n) (options_at ns supposed n) (all_places n) (each_place n)
 
   pub sound_options : (n : ℕ) → SoundOptions (options_below ns supposed n)
-  sound_options = all_places (λ o. All (λ k. 0 < k) o)
+  sound_options = all_places (λ o. AllByRecursion (λ k. 0 < k) o)
       (λ n. all_from_among (λ k. 0 < k) (up_to n) (λ k i. let (low, high) = among_up_to n k i in low))
       (λ n h. (h, tt))
 
-  pub ascending_options : (n : ℕ) → All (λ o. Ascending ltb o) (options_below ns supposed n)
+  pub ascending_options : (n : ℕ) → AllByRecursion (λ o. Ascending ltb o) (options_below ns supposed n)
   ascending_options = all_places (λ o. Ascending ltb o) up_to_ascends (λ n h. (λ e i. absurd i, tt))
 
   pub ascending_there : (n place : ℕ) → Ascending ltb (get_or (options_below ns supposed n) place [])

@@ -1,10 +1,10 @@
 -- What a world may take at one place of a model, and the rows that are made of it.
-use Rattle.std.proofs.Common.{◌≡◌, ℕ, zero, suc, ◌<◌, ◌≤◌, Bool, true, false, cond, eqb, ◌≢◌, List, [], ◌∷◌, map, length, get_or, take, set, replicate, filter, sym, refl, ap, ◌∙◌, subst, ⊎_elim, arith}
+use Rattle.std.proofs.Common.{◌≡◌, ℕ, zero, suc, ◌<◌, ◌≤◌, Bool, true, false, cond, eqb, ◌≢◌, List, [], ◌∷◌, map, length, get_or, take, set, replicate, filter, sym, refl, ap, ◌∙◌, ⊎_elim, arith}
 use Rattle.std.proofs.lemmas.List.{get_or_past}
 use Rattle.std.proofs.lemmas.Bool.{cases_lt, cond-true, cond-false, eq-eqb, ne_eqb}
 use Rattle.rows.specs.declared.row.Row as code
 use Rattle.logic.specs.Atoms.{rows_at}
-use Rattle.logic.specs.Duals.{empty, alone, others, contrary_at}
+use Rattle.logic.specs.Duals.{empty, others, contrary_at}
 use Rattle.logic.specs.Options.{Row, Options}
 use Rattle.model.specs.declared.model.Model.{Model}
 use Rattle.model.specs.declared.suppositions.Suppositions.{Suppositions}

@@ -1,5 +1,5 @@
 -- One atom after another, from the lowest up.
-use Rattle.std.proofs.Common.{◌≡◌, ℕ, zero, suc, ◌+◌, ◌<◌, ◌≤◌, Bool, true, false, cond, List, [], ◌∷◌, ◌++◌, length, get_or, take, drop, replicate, is_some, Some, None, Option, sym, refl, ap, ◌∙◌, subst, ⊎_elim, arith}
+use Rattle.std.proofs.Common.{◌≡◌, ℕ, zero, suc, ◌+◌, ◌<◌, ◌≤◌, Bool, true, false, cond, List, [], ◌∷◌, ◌++◌, length, get_or, replicate, is_some, Some, None, Option, sym, refl, ap, ◌∙◌, subst, ⊎_elim, arith}
 use Rattle.std.specs.Option.{option_map}
 use Rattle.std.proofs.lemmas.List.{length-append, get_or_past, get_or_push}
 use Rattle.std.proofs.lemmas.Bool.{cases_eq, cond-true, cond-false}
@@ -12,7 +12,6 @@ use Rattle.logic.proofs.Bases.{some_same, then_some, mapped_some}
 use Rattle.logic.proofs.Tables.{table_alike}
 use Rattle.explain.specs.declared.lists.Lengths.{Lengths}
 use Rattle.explain.specs.Explaining.{too_wide}
-use Rattle.explain.specs.Lists.{as_lists}
 use Rattle.explain.specs.Tables.{unworked, Narrow, Stands, Tabled}
 use Rattle.explain.proofs.Works.{pushed}
 

@@ -1,12 +1,12 @@
 -- The lists of one atom, and the table that they are written to.
-use Rattle.std.proofs.Common.{◌≡◌, ℕ, zero, suc, ◌+◌, ◌-◌, ◌*◌, ◌<◌, ◌≤◌, Bool, true, false, cond, ◌≢◌, ◌⊎◌, List, [], ◌∷◌, ◌++◌, length, get_or, take, drop, set, Some, None, Option, sym, refl, ap, ◌∙◌, subst, inl, inr, ⊎_elim, arith}
+use Rattle.std.proofs.Common.{◌≡◌, ℕ, zero, suc, ◌+◌, ◌*◌, ◌<◌, ◌≤◌, ◌≢◌, ◌⊎◌, List, [], ◌∷◌, ◌++◌, length, get_or, take, drop, set, Some, None, Option, sym, refl, ap, ◌∙◌, subst, inl, inr, ⊎_elim, arith}
 use Rattle.std.specs.Option.{option_map, option_zip}
 use Rattle.std.proofs.lemmas.List.{append_assoc, length-append, length-take-le, take_at, take-take, drop_at, drop-drop, get_or_push, get_or_append_left, get_or_past, get_or-set_same, get_or-set_other}
 use Rattle.std.proofs.lemmas.Bool.{cases_eq, cases_lt}
 use Rattle.rows.specs.Keeping.{and_then}
 use Rattle.rows.specs.declared.row.Row.{Row}
 use Rattle.rows.proofs.Puts.{drop_later}
-use Rattle.logic.specs.Atoms.{Lists, nothing, negated_list, own_list, worked}
+use Rattle.logic.specs.Atoms.{Lists, nothing, negated_list, worked}
 use Rattle.logic.specs.Duals.{duals}
 use Rattle.logic.specs.Options as logic
 use Rattle.logic.specs.Options.{Options}

@@ -1,5 +1,5 @@
 -- The question: the lists of a goal and of its negation, or why they are refused.
-use Rattle.std.specs.Prelude.{◌≡◌, ℕ, zero, suc, ◌-◌, Bool, true, false, cond, ◌&&◌, List, [], ◌++◌, length, drop, replicate, is_some, Some, None, Ok, Err, Option, Result, nat_le}
+use Rattle.std.specs.Prelude.{◌≡◌, ℕ, zero, suc, ◌-◌, Bool, false, cond, ◌&&◌, List, [], ◌++◌, length, drop, replicate, is_some, Some, None, Ok, Err, Option, Result, nat_le}
 use Rattle.logic.specs.Atoms.{Lists, lists_of, table}
 use Rattle.logic.specs.Explanations.{Explained}
 use Rattle.logic.specs.Needed.{needed}

@@ -1,5 +1,4 @@
 -- What a world may take at each place, for the alternatives of a model under suppositions.
-use Rattle.std.specs.Prelude.{ℕ, List}
 use Rattle.logic.specs.Options.{Options}
 use Rattle.model.specs.declared.model.Model.{Model}
 use Rattle.model.specs.declared.suppositions.Suppositions.{Suppositions}

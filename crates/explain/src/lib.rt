@@ -1,4 +1,6 @@
 //! Every minimal explanation of a goal, and of its negation.
+#![tactic(auto)]
+
 mod atoms;
 mod choices;
 mod duals;

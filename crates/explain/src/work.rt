@@ -97,7 +97,7 @@ fn keep(
     requires own { length own.now ≤ 64 }
     requires negated { length negated.now ≤ 64 }
     requires narrow { Narrow lengths.old }
-    ensures tabled { (t : List Lists) → length t ≡ atom → Tabled table.old lengths.old t → Tabled table.new lengths.new (t ++ (record { own = as_lists own.entry.now; negated = as_lists negated.now } ∷ [])) }
+    ensures tabled { (t : List Lists) → length t ≡ atom → Tabled table.old lengths.old t → Tabled table.new lengths.new (t ++ (record { own = as_lists own.now; negated = as_lists negated.now } ∷ [])) }
     ensures narrow { Narrow lengths.new }
 {
     let start = 2 * ROWS * atom;

@@ -1,6 +1,6 @@
-use Rattle.std.proofs.Common.{◌≡◌, ◌+◌, ◌-◌, ◌*◌, get_or, take, drop, sym, refl, ap, ◌∙◌, arith, rules}
+use Rattle.std.proofs.Common.{◌≡◌, ◌+◌, ◌-◌, ◌*◌, get_or, take, drop, sym, ap, ◌∙◌, arith, rules}
 use Rattle.std.proofs.lemmas.List.{get_or_past, length-take}
-use Rattle.logic.specs.Atoms.{Lists, nothing}
+use Rattle.logic.specs.Atoms.{nothing}
 use Rattle.explain.specs.Lists.{as_lists}
 use Rattle.explain.specs.Tables.{side, unworked}
 use Rattle.explain.proofs.Stands.{unknown}
@@ -9,17 +9,17 @@ use Rattle.explain.proofs.atoms.atom_list.Goals as goal
 pub returns-then-at-ge-ATOMS : goal.returns-then-at-ge-ATOMS
 returns-then-at-ge-ATOMS c = record { few = omega arith; defined = λ t tabled. sym (ap (side c.args.negated) (get_or_past t c.args.atom nothing (omega (arith, tabled.few))) ∙ unknown c.args.negated) }
 
-pub overflow-add-result-then-negated-2 : goal.overflow-add-result-then-negated-2
-overflow-add-result-then-negated-2 c = let few = c.requires.narrow c.args.atom in search rules
+pub overflow_add-result-then-negated-2 : goal.overflow_add-result-then-negated-2
+overflow_add-result-then-negated-2 c = let few = c.requires.narrow c.args.atom in search rules
 
-pub slice-bounds-result-end-then-negated : goal.slice-bounds-result-end-then-negated
-slice-bounds-result-end-then-negated c = let few = c.requires.narrow c.args.atom in search rules
+pub slice_bounds-result-end-then-negated : goal.slice_bounds-result-end-then-negated
+slice_bounds-result-end-then-negated c = let few = c.requires.narrow c.args.atom in search rules
 
-pub overflow-add-result-else-negated : goal.overflow-add-result-else-negated
-overflow-add-result-else-negated c = let few = c.requires.narrow c.args.atom in search rules
+pub overflow_add-result-else-negated : goal.overflow_add-result-else-negated
+overflow_add-result-else-negated c = let few = c.requires.narrow c.args.atom in search rules
 
-pub slice-bounds-result-end-else-negated : goal.slice-bounds-result-end-else-negated
-slice-bounds-result-end-else-negated c = let few = c.requires.narrow c.args.atom in search rules
+pub slice_bounds-result-end-else-negated : goal.slice_bounds-result-end-else-negated
+slice_bounds-result-end-else-negated c = let few = c.requires.narrow c.args.atom in search rules
 
 pub returns-then-negated : goal.returns-then-negated
 returns-then-negated c =

@@ -1,10 +1,8 @@
-use Rattle.std.proofs.Common.{◌≡◌, false, List, [], ◌∷◌, map, length, take, set, Some, sym, refl, ap, ◌∙◌, arith, rules}
+use Rattle.std.proofs.Common.{◌≡◌, map, length, take, Some, sym, refl, ap, ◌∙◌, arith, rules}
 use Rattle.std.proofs.lemmas.List.{length-set, take-map}
 use Rattle.std.proofs.lemmas.Result.{err_from_is_err_and}
 use Rattle.rows.specs.declared.row.Row.{Row}
 use Rattle.logic.specs.Atoms.{body_from}
-use Rattle.logic.specs.Duals.{empty}
-use Rattle.logic.specs.Options as logic
 use Rattle.model.specs.Meaning.{meaning}
 use Rattle.explain.specs.Lists.{as_lists}
 use Rattle.explain.specs.Options.{options}
@@ -23,28 +21,28 @@ loop-literal-preserved c =
     let k = c.args.known in
     let os = options k.model.now k.suppositions.now in
     let long = length-set c.args.rows.now 0 c.empty.result in
-    let put = c.in-ok-held.ensures in
-    let held = c.in-ok-held.held in
+    let put = c.in_ok-held.ensures in
+    let held = c.in_ok-held.held in
     let kept = sym (ap Some (take-map (λ (r : Row). r.choices) held c.conjoin.new.rows)) ∙ put.defined in
     let room : length c.loop-literal.rows ≡ 64 = omega (arith, c.requires.rows) in (
       omega (arith, put.fits),
       search rules,
       λ t tabled.
           body_more 64 os t c.args.body.now c.loop-literal.literal-index (as_lists (take c.loop-literal.held c.loop-literal.rows)) c.loop-literal-test.true (length c.loop-literal.rows) room
-          (as_lists c.literal-list-list.result.now) (c.literal-list-list.ensures.defined t tabled) (as_lists (take held c.conjoin.new.rows)) kept ∙ c.loop-literal.invariant.2 t tabled,
+          (as_lists c.literal_list-list.result.now) (c.literal_list-list.ensures.defined t tabled) (as_lists (take held c.conjoin.new.rows)) kept ∙ c.loop-literal.invariant.2 t tabled,
     )
 
-pub returns-in-err-held : goal.returns-in-err-held
-returns-in-err-held c =
+pub returns-in_err-held : goal.returns-in_err-held
+returns-in_err-held c =
     let k = c.args.known in
     let os = options k.model.now k.suppositions.now in
     let long = length-set c.args.rows.now 0 c.empty.result in
-    let p = err_from_is_err_and c.from-residual.result c.from-residual.ensures.1 in
+    let p = err_from_is_err_and c.from_residual.result c.from_residual.ensures.1 in
     let room : length c.loop-literal.rows ≡ 64 = omega (arith, c.requires.rows) in
     rw p.1 (record {
       defined = λ t tabled.
           body_stop 64 os t c.args.body.now c.loop-literal.literal-index (as_lists (take c.loop-literal.held c.loop-literal.rows)) c.loop-literal-test.true (length c.loop-literal.rows) room
-          (as_lists c.literal-list-list.result.now) (c.literal-list-list.ensures.defined t tabled) c.in-err-held.ensures.defined ∙ c.loop-literal.invariant.2 t tabled;
+          (as_lists c.literal_list-list.result.now) (c.literal_list-list.ensures.defined t tabled) c.in_err-held.ensures.defined ∙ c.loop-literal.invariant.2 t tabled;
       fits = tt;
     })
 

@@ -16,25 +16,25 @@ returns-then-supposed-ne0 c =
     let p = like c.args.choice c.args.unlike in
     let is = rows_fixed c.args.model.now c.args.suppositions.now c.args.place (λ l. sym at.choice ∙ at.past l) p (λ e. c.if-supposed-ne0.true (at.choice ∙ e)) in
     record {
-      appended = one-or-none c.args.rows.now c.push-if.new.rows c.push-if.result c.is-like.result _ c.empty.result.choices _ c.push-if.ensures.appended (c.is-like.ensures ∙ ap p at.choice) c.empty.ensures is;
-      few = omega (arith, c.push-if.ensures.few);
+      appended = one-or-none c.args.rows.now c.push_if.new.rows c.push_if.result c.is_like.result _ c.empty.result.choices _ c.push_if.ensures.appended (c.is_like.ensures ∙ ap p at.choice) c.empty.ensures is;
+      few = omega (arith, c.push_if.ensures.few);
     }
 
 pub returns-then-count-lt2 : goal.returns-then-count-lt2
 returns-then-count-lt2 c =
     let at = c.at-supposed.ensures in
     let p = like c.args.choice c.args.unlike in
-    let is = rows_few c.args.model.now c.args.suppositions.now c.args.place (λ l. sym at.choice ∙ at.past l) p (sym at.choice ∙ c.if-supposed-ne0.false) (omega (arith, c.choices-at-count.ensures.count)) in
+    let is = rows_few c.args.model.now c.args.suppositions.now c.args.place (λ l. sym at.choice ∙ at.past l) p (sym at.choice ∙ c.if-supposed-ne0.false) (omega (arith, c.choices_at-count.ensures.count)) in
     record {
-      appended = one-or-none c.args.rows.now c.push-if-then-count-lt2.new.rows c.push-if-then-count-lt2.result c.is-like-then-count-lt2.result _ c.empty-then-count-lt2.result.choices _ c.push-if-then-count-lt2.ensures.appended (c.is-like-then-count-lt2.ensures ∙ ap p c.choices-at-count.ensures.count) c.empty-then-count-lt2.ensures is;
-      few = omega (arith, c.push-if-then-count-lt2.ensures.few);
+      appended = one-or-none c.args.rows.now c.push_if-then-count-lt2.new.rows c.push_if-then-count-lt2.result c.is_like-then-count-lt2.result _ c.empty-then-count-lt2.result.choices _ c.push_if-then-count-lt2.ensures.appended (c.is_like-then-count-lt2.ensures ∙ ap p c.choices_at-count.ensures.count) c.empty-then-count-lt2.ensures is;
+      few = omega (arith, c.push_if-then-count-lt2.ensures.few);
     }
 
 pub returns : goal.returns
 returns c =
     let at = c.at-supposed.ensures in
-    let is = rows_several c.args.model.now c.args.suppositions.now c.args.place (λ l. sym at.choice ∙ at.past l) (like c.args.choice c.args.unlike) (sym at.choice ∙ c.if-supposed-ne0.false) (omega (arith, c.choices-at-count.ensures.count)) in
+    let is = rows_several c.args.model.now c.args.suppositions.now c.args.place (λ l. sym at.choice ∙ at.past l) (like c.args.choice c.args.unlike) (sym at.choice ∙ c.if-supposed-ne0.false) (omega (arith, c.choices_at-count.ensures.count)) in
     record {
-      appended = subst (λ more. Appended c.args.rows.now c.push-choices.new.rows 0 more c.push-choices.result) (sym is) c.push-choices.ensures.appended;
-      few = omega (arith, c.push-choices.ensures.few);
+      appended = subst (λ more. Appended c.args.rows.now c.push_choices.new.rows 0 more c.push_choices.result) (sym is) c.push_choices.ensures.appended;
+      few = omega (arith, c.push_choices.ensures.few);
     }

@@ -1,4 +1,4 @@
-use Rattle.std.proofs.Common.{◌≡◌, suc, ◌+◌, sym, ap, ◌∙◌, subst, arith}
+use Rattle.std.proofs.Common.{◌≡◌, suc, ◌+◌, sym, ◌∙◌, subst, arith}
 use Rattle.logic.specs.Duals.{contrary_below}
 use Rattle.explain.specs.Lists.{Appended}
 use Rattle.explain.specs.Options.{options}
@@ -15,9 +15,9 @@ unfolding contrary_below
 loop-place-preserved c =
     let os = options c.args.model.now c.args.suppositions.now in
     let next : c.loop-place.place + 1 ≡ suc c.loop-place.place = omega arith in (
-      subst (λ n. Appended c.args.rows.now c.push-contraries-end.new.rows 0 (contrary_below os c.args.member.now.choices n) c.push-contraries-end.result) (sym next)
-          (appended_more c.loop-place.invariant.0 c.push-contraries-end.ensures.appended),
-      omega (arith, c.push-contraries-end.ensures.few),
+      subst (λ n. Appended c.args.rows.now c.push_contraries-end.new.rows 0 (contrary_below os c.args.member.now.choices n) c.push_contraries-end.result) (sym next)
+          (appended_more c.loop-place.invariant.0 c.push_contraries-end.ensures.appended),
+      omega (arith, c.push_contraries-end.ensures.few),
     )
 
 pub returns : goal.returns

@@ -1,4 +1,4 @@
-use Rattle.std.proofs.Common.{◌≡◌, ◌*◌, ◌≤◌}
+use Rattle.std.proofs.Common.{◌*◌, ◌≤◌}
 use Rattle.logic.specs.Duals.{contrary_below}
 use Rattle.explain.specs.Lists.{Appended}
 use Rattle.explain.specs.Options.{options}

@@ -1,4 +1,4 @@
-use Rattle.std.proofs.Common.{◌≡◌, ◌-◌, ◌≤◌, length, take, Some, sym, ap, ◌∙◌, arith, rules}
+use Rattle.std.proofs.Common.{◌≡◌, ◌-◌, ◌≤◌, length, take, Some, ap, ◌∙◌, arith}
 use Rattle.logic.specs.Duals.{conjoined}
 use Rattle.explain.specs.Lists.{as_lists}
 use Rattle.explain.proofs.Conjoins.{copied}
@@ -6,14 +6,14 @@ use Rattle.explain.proofs.duals.conjoin.Goals as goal
 
 pub returns : goal.returns
 returns c =
-    let n = c.in-ok-count.count in
-    let put = c.in-ok-count.ensures in
-    let spare = c.put-conjoined.new.into in
+    let n = c.in_ok-count.count in
+    let put = c.in_ok-count.ensures in
+    let spare = c.put_conjoined.new.into in
     let others = as_lists c.args.others.now in
     let fits : n ≤ length c.args.rows.now = omega (arith, put.fits, c.requires.alike) in
     let z : c.args.held - 0 ≡ c.args.held = omega arith in
     record {
-      defined = ap Some (copied c.copy-from-slice.new.self _ spare n c.copy-from-slice.ensures.after (omega (arith, c.put-conjoined.auto.into, put.fits)))
+      defined = ap Some (copied c.copy_from_slice.new.self _ spare n c.copy_from_slice.ensures.after (omega (arith, c.put_conjoined.auto.into, put.fits)))
           ∙ put.defined ∙ ap (λ k. conjoined k (as_lists (take (c.args.held - 0) c.args.rows.now)) others) c.requires.alike ∙ ap (λ k. conjoined (length c.args.rows.now) (as_lists (take k c.args.rows.now)) others) z;
       fits = fits;
     }

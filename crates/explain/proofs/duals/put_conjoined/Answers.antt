@@ -1,4 +1,4 @@
-use Rattle.std.proofs.Common.{◌≡◌, List, [], map, length, take, Some, sym, refl, ap, ◌∙◌, subst, rules}
+use Rattle.std.proofs.Common.{◌≡◌, length, take, Some, sym, refl, ap, ◌∙◌, rules}
 use Rattle.std.proofs.lemmas.List.{take-map}
 use Rattle.std.proofs.lemmas.Result.{err_from_is_err_and}
 use Rattle.rows.specs.Holding.{listed, room}
@@ -17,16 +17,16 @@ pub loop-row-preserved : goal.loop-row-preserved
 loop-row-preserved c =
     let l = c.loop-row.list in
     let inv = c.loop-row.invariant in
-    let put = c.in-ok-put-unions.ensures in
-    let turn = rows_put (room c.new-list.result) c.args.rows.now (as_lists c.args.others.now) (as_lists (listed l)) c.loop-row.row-index c.loop-row-test.true (room l) inv.0 (as_lists (listed c.put-unions.new.list)) put.defined in
+    let put = c.in_ok-put_unions.ensures in
+    let turn = rows_put (room c.new-list.result) c.args.rows.now (as_lists c.args.others.now) (as_lists (listed l)) c.loop-row.row-index c.loop-row-test.true (room l) inv.0 (as_lists (listed c.put_unions.new.list)) put.defined in
     (put.room ∙ inv.0, put.lent ∙ inv.1, turn ∙ inv.2)
 
-pub returns-in-err-put-unions : goal.returns-in-err-put-unions
-returns-in-err-put-unions c =
+pub returns-in_err-put_unions : goal.returns-in_err-put_unions
+returns-in_err-put_unions c =
     let l = c.loop-row.list in
     let inv = c.loop-row.invariant in
-    let put = c.in-err-put-unions.ensures in
-    let p = err_from_is_err_and c.from-residual.result c.from-residual.ensures.1 in
+    let put = c.in_err-put_unions.ensures in
+    let p = err_from_is_err_and c.from_residual.result c.from_residual.ensures.1 in
     let stop = rows_stop (room c.new-list.result) c.args.rows.now (as_lists c.args.others.now) (as_lists (listed l)) c.loop-row.row-index c.loop-row-test.true (room l) inv.0 put.defined in
     rw p.1 (record { defined = stop ∙ inv.2 ∙ ap (λ n. conjoined n (as_lists c.args.rows.now) (as_lists c.args.others.now)) (search rules); fits = tt })
 

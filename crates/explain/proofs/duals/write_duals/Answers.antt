@@ -16,8 +16,8 @@ loop-member-init c =
     let first = first_empty c.args.model.now c.args.suppositions.now c.args.rows.now c.empty.result (omega (arith, c.requires.rows)) c.empty.ensures in
     (omega arith, refl, ap (λ ds. duals_from 64 os ds (as_lists c.args.members.now)) first)
 
-pub write-contraries-count-requires : goal.write-contraries-count-requires
-write-contraries-count-requires c = omega (arith, c.loop-member.invariant.1, c.requires.room)
+pub write_contraries-count-requires : goal.write_contraries-count-requires
+write_contraries-count-requires c = omega (arith, c.loop-member.invariant.1, c.requires.room)
 
 pub conjoin-requires : goal.conjoin-requires
 conjoin-requires c =
@@ -29,25 +29,25 @@ loop-member-preserved c =
     let os = options c.args.model.now c.args.suppositions.now in
     let long = length-set c.args.rows.now 0 c.empty.result in
     let room : length c.loop-member.rows ≡ 64 = omega (arith, c.requires.rows) in
-    let count = c.write-contraries-count.result in
-    let found = c.write-contraries-count.new.rows in
-    let are = contraries_are count found _ c.write-contraries-count.ensures.appended.front in
-    let put = c.in-ok-held.ensures in
-    let held = c.in-ok-held.held in
+    let count = c.write_contraries-count.result in
+    let found = c.write_contraries-count.new.rows in
+    let are = contraries_are count found _ c.write_contraries-count.ensures.appended.front in
+    let put = c.in_ok-held.ensures in
+    let held = c.in_ok-held.held in
     let kept = sym (ap Some (take-map (λ (r : Row). r.choices) held c.conjoin.new.rows)) ∙ put.defined in
     let turn = duals_more 64 os c.args.members.now c.loop-member.member-index (as_lists (take c.loop-member.held c.loop-member.rows)) c.loop-member-test.true (length c.loop-member.rows) room (as_lists (take (count - 0) found)) are (as_lists (take held c.conjoin.new.rows)) kept in
-    (omega (arith, put.fits), omega (arith, c.write-contraries-count.auto.rows, c.loop-member.invariant.1), turn ∙ c.loop-member.invariant.2)
+    (omega (arith, put.fits), omega (arith, c.write_contraries-count.auto.rows, c.loop-member.invariant.1), turn ∙ c.loop-member.invariant.2)
 
-pub returns-in-err-held : goal.returns-in-err-held
-returns-in-err-held c =
+pub returns-in_err-held : goal.returns-in_err-held
+returns-in_err-held c =
     let os = options c.args.model.now c.args.suppositions.now in
     let long = length-set c.args.rows.now 0 c.empty.result in
     let room : length c.loop-member.rows ≡ 64 = omega (arith, c.requires.rows) in
-    let count = c.write-contraries-count.result in
-    let found = c.write-contraries-count.new.rows in
-    let are = contraries_are count found _ c.write-contraries-count.ensures.appended.front in
-    let p = err_from_is_err_and c.from-residual.result c.from-residual.ensures.1 in
-    let stop = duals_stop 64 os c.args.members.now c.loop-member.member-index (as_lists (take c.loop-member.held c.loop-member.rows)) c.loop-member-test.true (length c.loop-member.rows) room (as_lists (take (count - 0) found)) are c.in-err-held.ensures.defined in
+    let count = c.write_contraries-count.result in
+    let found = c.write_contraries-count.new.rows in
+    let are = contraries_are count found _ c.write_contraries-count.ensures.appended.front in
+    let p = err_from_is_err_and c.from_residual.result c.from_residual.ensures.1 in
+    let stop = duals_stop 64 os c.args.members.now c.loop-member.member-index (as_lists (take c.loop-member.held c.loop-member.rows)) c.loop-member-test.true (length c.loop-member.rows) room (as_lists (take (count - 0) found)) are c.in_err-held.ensures.defined in
     rw p.1 (record { defined = stop ∙ c.loop-member.invariant.2; fits = tt })
 
 pub returns : goal.returns

@@ -1,4 +1,4 @@
-use Rattle.std.proofs.Common.{◌≡◌, map}
+use Rattle.std.proofs.Common.{map}
 use Rattle.model.specs.Meaning.{held_rule}
 use Rattle.explain.proofs.Marking.{Underway}
 use Rattle.explain.proofs.marks.+mark.Given as goal

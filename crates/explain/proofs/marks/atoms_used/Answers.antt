@@ -1,4 +1,4 @@
-use Rattle.std.proofs.Common.{◌≡◌, ◌||◌, eqb, List, map, sym, ap, ◌∙◌}
+use Rattle.std.proofs.Common.{◌||◌, eqb, List, map, sym, ap, ◌∙◌}
 use mathlib.Core.Bool.{or-false}
 use Rattle.std.proofs.lemmas.Bool.{eq-eqb, ne_eqb}
 use Rattle.logic.specs.Needed.{uses, used}
@@ -18,8 +18,8 @@ loop-rule-preserved c =
     let i = c.loop-rule.rule-index in
     elim c.if-head-atom.branch [
       | then-head-atom w ↦ rw w.marks-is (λ a h.
-          used_more c.args.atom rs i a c.loop-rule-test.true c.loop-rule.marks w.mark-body.new.marks (eq-eqb _ _ (sym c.head.ensures ∙ w.if-head-atom.true))
-          (w.mark-body.ensures a h ∙ ap (λ (ls : List Literal). marked c.loop-rule.marks a || uses (map meaning ls) a) w.body.ensures)
+          used_more c.args.atom rs i a c.loop-rule-test.true c.loop-rule.marks w.mark_body.new.marks (eq-eqb _ _ (sym c.head.ensures ∙ w.if-head-atom.true))
+          (w.mark_body.ensures a h ∙ ap (λ (ls : List Literal). marked c.loop-rule.marks a || uses (map meaning ls) a) w.body.ensures)
           ∙ c.loop-rule.invariant a h)
       | else-head-atom w ↦ rw w.marks-is (λ a h.
           used_skip c.args.atom rs i a c.loop-rule-test.true c.loop-rule.marks (ne_eqb _ _ (λ is. w.if-head-atom.false (c.head.ensures ∙ is))) ∙ c.loop-rule.invariant a h)

@@ -6,10 +6,10 @@ use Rattle.explain.proofs.question.copy_list.Goals as goal
 
 pub returns : goal.returns
 returns c = λ t tabled.
-    let list = c.literal-list-list.result.now in
+    let list = c.literal_list-list.result.now in
     let z : length list - 0 ≡ length list = omega arith in
-    let is = c.literal-list-list.ensures.defined t tabled in
+    let is = c.literal_list-list.ensures.defined t tabled in
     record {
       count = sym (length-map list (λ (r : Row). r.choices)) ∙ ap length is;
-      front = copied_over c.copy-from-slice.new.self list c.args.into.now _ _ c.copy-from-slice.ensures.after is (ap (λ k. drop k c.args.into.now) z);
+      front = copied_over c.copy_from_slice.new.self list c.args.into.now _ _ c.copy_from_slice.ensures.after is (ap (λ k. drop k c.args.into.now) z);
     }

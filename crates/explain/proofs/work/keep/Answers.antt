@@ -1,4 +1,3 @@
-use Rattle.std.proofs.Common.{◌≡◌, arith}
 use Rattle.explain.proofs.Works.{kept_narrow, kept_tabled}
 use Rattle.explain.proofs.work.keep.Goals as goal
 

@@ -10,10 +10,10 @@ lists-same own own' negated negated' p q = λ i. record { own = p i; negated = q
 
 pub returns : goal.returns
 returns c =
-    let found = c.in-ok-found.ensures in
-    let own = c.write-lists.new.own in
-    let negated = c.write-lists.new.negated in
-    let n = c.in-ok-found.found in
+    let found = c.in_ok-found.ensures in
+    let own = c.write_lists.new.own in
+    let negated = c.write_lists.new.negated in
+    let n = c.in_ok-found.found in
     record {
       defined = λ t size tabled. (
         record { own = as_lists (take (n.own - 0) own); negated = as_lists (take (n.negated - 0) negated) },

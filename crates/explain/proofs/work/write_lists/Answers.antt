@@ -1,4 +1,4 @@
-use Rattle.std.proofs.Common.{◌≡◌, take, sym, ap, ◌∙◌}
+use Rattle.std.proofs.Common.{take, ap, ◌∙◌}
 use Rattle.std.proofs.lemmas.Result.{err_from_is_err_and}
 use Rattle.logic.specs.Duals.{duals}
 use Rattle.model.specs.Meaning.{held_rules}
@@ -8,23 +8,23 @@ use Rattle.explain.proofs.Appends.{front_lists}
 use Rattle.explain.proofs.Works.{worked_some, negated_wide, own_wide}
 use Rattle.explain.proofs.work.write_lists.Goals as goal
 
-pub returns-in-err-denied : goal.returns-in-err-denied
-returns-in-err-denied c =
+pub returns-in_err-denied : goal.returns-in_err-denied
+returns-in_err-denied c =
     let k = c.args.known in
     let m = k.model.now in
-    let p = err_from_is_err_and c.from-residual.result c.from-residual.ensures.1 in
-    rw p.1 (record { defined = λ t tabled. negated_wide 64 (options m k.suppositions.now) (held_rules m) t c.args.atom (c.in-err-denied.ensures.defined t tabled); fits = tt })
+    let p = err_from_is_err_and c.from_residual.result c.from_residual.ensures.1 in
+    rw p.1 (record { defined = λ t tabled. negated_wide 64 (options m k.suppositions.now) (held_rules m) t c.args.atom (c.in_err-denied.ensures.defined t tabled); fits = tt })
 
-pub returns-in-err-affirmed : goal.returns-in-err-affirmed
-returns-in-err-affirmed c =
+pub returns-in_err-affirmed : goal.returns-in_err-affirmed
+returns-in_err-affirmed c =
     let k = c.args.known in
     let m = k.model.now in
     let os = options m k.suppositions.now in
-    let rows = c.write-negated.new.rows in
-    let n = c.in-ok-denied.denied in
-    let p = err_from_is_err_and c.from-residual-in-err-affirmed.result c.from-residual-in-err-affirmed.ensures.1 in
+    let rows = c.write_negated.new.rows in
+    let n = c.in_ok-denied.denied in
+    let p = err_from_is_err_and c.from_residual-in_err-affirmed.result c.from_residual-in_err-affirmed.ensures.1 in
     rw p.1 (record {
-      defined = λ t tabled. own_wide 64 os (held_rules m) t c.args.atom (take n (as_lists rows)) (c.in-ok-denied.ensures.defined t tabled) (c.in-err-affirmed.ensures.defined ∙ ap (duals 64 os) (front_lists n rows));
+      defined = λ t tabled. own_wide 64 os (held_rules m) t c.args.atom (take n (as_lists rows)) (c.in_ok-denied.ensures.defined t tabled) (c.in_err-affirmed.ensures.defined ∙ ap (duals 64 os) (front_lists n rows));
       fits = tt;
     })
 
@@ -33,10 +33,10 @@ returns c =
     let k = c.args.known in
     let m = k.model.now in
     let os = options m k.suppositions.now in
-    let rows = c.write-negated.new.rows in
-    let n = c.in-ok-denied.denied in
-    let own = c.in-ok-affirmed.ensures in
+    let rows = c.write_negated.new.rows in
+    let n = c.in_ok-denied.denied in
+    let own = c.in_ok-affirmed.ensures in
     record {
-      defined = λ t tabled. worked_some 64 os (held_rules m) t c.args.atom (take c.in-ok-affirmed.affirmed (as_lists c.write-duals.new.rows)) (take n (as_lists rows)) (c.in-ok-denied.ensures.defined t tabled) (own.defined ∙ ap (duals 64 os) (front_lists n rows));
-      fits = (own.fits, c.in-ok-denied.ensures.fits);
+      defined = λ t tabled. worked_some 64 os (held_rules m) t c.args.atom (take c.in_ok-affirmed.affirmed (as_lists c.write_duals.new.rows)) (take n (as_lists rows)) (c.in_ok-denied.ensures.defined t tabled) (own.defined ∙ ap (duals 64 os) (front_lists n rows));
+      fits = (own.fits, c.in_ok-denied.ensures.fits);
     }
