@@ -1,5 +1,5 @@
 -- Where a journal agrees with a session, the answers of the session are as the journal says.
-use Rattle.std.proofs.Common.{◌≡◌, ℕ, Bool, true, List, [], ◌∷◌, map, length, is_ok, Ok, Err, Result, sym, refl, ap, ◌∙◌, subst, arith}
+use Rattle.std.proofs.Common.{◌≡◌, ℕ, Bool, true, List, [], map, length, is_ok, Ok, Err, Result, sym, refl, ap, ◌∙◌, subst, arith}
 use Rattle.rows.proofs.Kept.{run_minimal, ascending_same}
 use Rattle.rows.proofs.Members.{all_among}
 use Rattle.rows.proofs.Pushes.{kept_all_some}

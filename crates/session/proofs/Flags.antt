@@ -1,5 +1,5 @@
 -- Flags that are written one after another from the first place on.
-use Rattle.std.proofs.Common.{◌≡◌, ℕ, zero, suc, Bool, List, [], ◌∷◌, ◌++◌, map, set, refl, ap, ◌∙◌}
+use Rattle.std.proofs.Common.{◌≡◌, ℕ, suc, Bool, List, [], ◌∷◌, map, set, refl, ap, ◌∙◌}
 use Rattle.model.specs.declared.model.Model.{Model}
 use Rattle.model.specs.declared.suppositions.Suppositions.{Suppositions}
 use Rattle.model.specs.Journal.{Journal}

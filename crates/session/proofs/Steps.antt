@@ -1,5 +1,5 @@
 -- The steps of a run, each from the place that it has come to.
-use Rattle.std.proofs.Common.{◌≡◌, ℕ, suc, ◌+◌, ◌<◌, ◌≤◌, Bool, true, false, List, [], ◌∷◌, map, length, get_or, drop, set, sym, refl, ap, ◌∙◌, subst, add-one}
+use Rattle.std.proofs.Common.{◌≡◌, ℕ, ◌+◌, ◌<◌, ◌≤◌, Bool, true, false, List, [], ◌∷◌, map, length, get_or, set, sym, refl, ap, ◌∙◌, subst, add-one}
 use Rattle.std.proofs.lemmas.List.{drop_all, drop_more}
 use Rattle.std.proofs.lemmas.Bool.{true≢false}
 use Rattle.model.specs.declared.model.Model.{Model}
@@ -73,7 +73,7 @@ module _ {j : Journal} {calls : List Call} {from at : ℕ} {before behind : List
         ∙ ap (λ (fs : List Bool). flagged fs (at + 1) rest) (ap (set behind at) (sym (accepted r.here r.agrees)) ∙ sym mark)
 
     step : (more : Journal → Journal) (k : Journal) → more k ≡ next r.here call → k.notes ≡ r.here.notes → Agrees k n s → Reached j more calls from (at + 1) before marked n s
-    step more k fed notes agrees = record {
+    step _ k fed notes agrees = record {
       here = k;
       notes = notes ∙ r.notes;
       agrees = agrees;

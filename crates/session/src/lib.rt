@@ -1,4 +1,6 @@
 //! Sessions: lists of calls, and what a run of one leaves.
+#![tactic(auto)]
+
 mod call;
 mod runs;
 

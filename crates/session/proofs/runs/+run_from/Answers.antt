@@ -1,4 +1,4 @@
-use Rattle.std.proofs.Common.{◌+◌, ◌<◌, ◌≤◌, arith, rules}
+use Rattle.std.proofs.Common.{arith, rules}
 use Rattle.session.proofs.Steps.{run_done, run_plain, run_ends, run_ends_nothing, run_supposes_done, run_supposes_ended}
 use Rattle.session.proofs.runs.+run_from.Goals as goal
 
@@ -43,7 +43,7 @@ pub loop-at-preserved : goal.loop-at-preserved
 loop-at-preserved t c =
     let inv = c.loop-at.invariant in
     let said = c.answer-ok.ensures in
-    (omega (arith, inv.0), inv.1, λ j g e. run_plain (inv.2 j g e) _ c.loop-at-test.true said.accepted said.journal c.mark.ensures c.in-default.not-Suppose c.in-default.not-End)
+    (omega (arith, inv.0), inv.1, λ j g e. run_plain (inv.2 j g e) _ c.loop-at-test.true said.accepted said.journal c.mark.ensures c.in_default.not-Suppose c.in_default.not-End)
 
 pub returns : goal.returns
 returns t c = let inv = c.loop-at.invariant in record { same = inv.1; stopped = tt; ran = λ j g e. run_done (inv.2 j g e) c.loop-at-test.false }

@@ -3,8 +3,8 @@ use Rattle.model.specs.Journal.{Journal, Agrees}
 use Rattle.session.specs.Running.{Reached}
 use Rattle.session.proofs.runs.+run_from.Given as goal
 
-abbrev pub decreases-run-from : goal.decreases-run-from
-decreases-run-from l = length l.calls.now - l.from
+abbrev pub decreases-run_from : goal.decreases-run_from
+decreases-run_from l = length l.calls.now - l.from
 
 abbrev pub invariant-loop-at : goal.invariant-loop-at
 invariant-loop-at l = (l.from ≤ l.at) × (l.suppositions ≡ l.initial.suppositions)

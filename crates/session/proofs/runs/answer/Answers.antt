@@ -6,17 +6,17 @@ use Rattle.session.proofs.runs.answer.Goals as goal
 pub returns-in-Declare : goal.returns-in-Declare
 returns-in-Declare c =
     let said = c.declare.ensures in
-    let both = answers_declares c.args.suppositions.now c.declare.result c.is-ok.ensures.value (ap called c.in-Declare.is) said.defined said.journal in
+    let both = answers_declares c.args.suppositions.now c.declare.result c.is_ok.ensures.value (ap called c.in-Declare.is) said.defined said.journal in
     record { accepted = both.0; journal = both.1 }
 
 pub returns-in-SetWeight : goal.returns-in-SetWeight
 returns-in-SetWeight c =
-    let said = c.set-weight.ensures in
-    let both = answers_weighs c.args.suppositions.now c.set-weight.result c.is-ok-in-SetWeight.ensures.value (ap called c.in-SetWeight.is) said.defined said.journal in
+    let said = c.set_weight.ensures in
+    let both = answers_weighs c.args.suppositions.now c.set_weight.result c.is_ok-in-SetWeight.ensures.value (ap called c.in-SetWeight.is) said.defined said.journal in
     record { accepted = both.0; journal = both.1 }
 
 pub returns-in-State : goal.returns-in-State
 returns-in-State c =
     let said = c.state.ensures in
-    let both = answers_states c.args.suppositions.now c.state.result c.is-ok-in-State.ensures.value (ap called c.in-State.is) said.defined said.journal in
+    let both = answers_states c.args.suppositions.now c.state.result c.is_ok-in-State.ensures.value (ap called c.in-State.is) said.defined said.journal in
     record { accepted = both.0; journal = both.1 }
