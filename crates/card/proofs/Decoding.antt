@@ -1,5 +1,5 @@
 -- Weights and literals out of bytes, as the loops take them.
-use Rattle.std.proofs.Common.{◌≡◌, ℕ, ◌+◌, ◌-◌, ◌*◌, ◌/◌, ◌<◌, ◌≤◌, List, [], ◌∷◌, ◌++◌, length, get_or, take, drop, set, sym, refl, ap, ◌∙◌, mul-one, mul-add, arith}
+use Rattle.std.proofs.Common.{◌≡◌, ℕ, ◌+◌, ◌*◌, ◌/◌, ◌<◌, ◌≤◌, List, [], ◌∷◌, ◌++◌, length, get_or, take, drop, set, sym, refl, ap, ◌∙◌, mul-one, mul-add, arith}
 use Rattle.std.proofs.lemmas.List.{append_assoc, append-nil, take_more_set, drop-drop, length-drop, get_or-drop}
 use Rattle.model.specs.declared.literal.Literal.{Literal}
 use Rattle.model.specs.Laws.{literal_same}

@@ -1,12 +1,11 @@
 -- A record that is read is framed and begins the bytes with its encoding; and what begins so is read as that record.
-use Rattle.std.proofs.Common.{◌≡◌, ℕ, ◌+◌, ◌-◌, ◌*◌, ◌/◌, ◌<◌, ◌≤◌, Bool, true, false, cond, ◌&&◌, eqb, leb, List, [], ◌∷◌, ◌++◌, length, get_or, take, drop, Ok, Err, codes, Result, sym, refl, ap, ◌∙◌, subst, arith}
+use Rattle.std.proofs.Common.{◌≡◌, ℕ, ◌+◌, ◌*◌, ◌/◌, ◌<◌, ◌≤◌, Bool, true, false, cond, ◌&&◌, eqb, leb, List, [], ◌∷◌, ◌++◌, length, take, drop, Ok, codes, sym, refl, ap, ◌∙◌, subst, arith}
 use native.Mathlib.Nat.{mul-div_cancel_left}
 use Rattle.std.proofs.lemmas.List.{take-append-drop, take_at, length-take-le, length-append, length-drop}
 use Rattle.std.proofs.lemmas.Bool.{cond-true, le-leb}
 use Rattle.std.proofs.lemmas.Bool.Decides.{nat_tests}
-use Rattle.card.specs.declared.fault.Fault.{Fault}
 use Rattle.card.specs.Encoding.{Entry, alternative, rule, end, encoding, Framed}
-use Rattle.card.specs.Reading.{whole, spells, after_al, after_ru, after_en, by_tag, front, step}
+use Rattle.card.specs.Reading.{whole, spells, after_al, after_ru, after_en, front, step}
 
 -- which way a test went
 at_cond : {X P : Type 0} (b : Bool) {x y z : X} → cond b x y ≡ z → (b ≡ true → x ≡ z → P) → (y ≡ z → P) → P

@@ -1,19 +1,16 @@
 -- A model agrees with the journal of its card's records: so whatever is loaded from its card is the model itself.
-use Rattle.std.proofs.Common.{◌≡◌, ℕ, true, not, List, [], ◌∷◌, ◌++◌, map, take, replicate, is_some, Some, None, Option, sym, refl, ap, ◌∙◌, subst, ⊎_elim, arith}
-use Rattle.std.specs.List.{AllByRecursion as All}
+use Rattle.std.proofs.Common.{◌≡◌, ℕ, true, List, [], ◌∷◌, ◌++◌, map, take, replicate, sym, refl, ap, ◌∙◌, subst, arith}
+use Rattle.std.specs.List.{AllByRecursion}
 use Rattle.std.proofs.ByRecursion.{All-map}
 use Rattle.std.proofs.lemmas.List.{append_assoc, append-nil, length-take-le}
-use Rattle.std.proofs.lemmas.Bool.{and_parts, and_from, or_cases}
 use Rattle.model.specs.declared.literal.Literal.{Literal}
 use Rattle.model.specs.declared.model.Model.{Model}
-use Rattle.model.specs.declared.refusal.Refusal.{Refusal}
 use Rattle.model.specs.declared.rule.Rule.{Rule}
 use Rattle.model.specs.declared.suppositions.Suppositions.{Suppositions}
-use Rattle.model.specs.Holding.{sizes_of, taken, sound_rule, sound_rules}
+use Rattle.model.specs.Holding.{sound_rules}
 use Rattle.model.specs.Journal.{Stated, Journal, Agrees, Taken, as_rule, fresh}
-use Rattle.model.specs.Judging.{is_atom, judge_literal, judge_rule}
 use Rattle.model.specs.Models.{alternatives, rules, sizes}
-use Rattle.model.specs.Rules.{literals, canonical, subset}
+use Rattle.model.specs.Rules.{literals, canonical}
 use Rattle.model.proofs.Determined.{determined}
 use Rattle.model.proofs.Soundness.{all_taken}
 use Rattle.model.proofs.States.{held_minimal}
@@ -36,7 +33,7 @@ journal_of m = record { declared = alternatives m; stated = map as_stated (rules
 journal_same : (j : Journal) (as' : List (List ℕ)) (ss : List Stated) → j.declared ≡ as' → j.stated ≡ ss → j ≡ record { declared = as'; stated = ss; supposed = j.supposed; notes = j.notes }
 journal_same j as' ss p q = λ i. record { declared = p i; stated = q i; supposed = j.supposed; notes = j.notes }
 
-declares_recorded : (j : Journal) (as' : List (List ℕ)) (es : List Entry) → All Fit as'
+declares_recorded : (j : Journal) (as' : List (List ℕ)) (es : List Entry) → AllByRecursion Fit as'
     → recorded j (map alternative_entry as' ++ es) ≡ recorded (record { declared = j.declared ++ as'; stated = j.stated; supposed = j.supposed; notes = j.notes }) es
 declares_recorded j [] es fit = ap (λ (k : Journal). recorded k es) (journal_same j _ _ (sym (append-nil j.declared)) refl)
 declares_recorded j (ws ∷ as') es fit =
@@ -53,12 +50,12 @@ states_recorded j (r ∷ rs) =
     ∙ states_recorded (with (j.stated ++ (as_stated r ∷ []))) rs
     ∙ ap with (append_assoc j.stated (as_stated r ∷ []) (map as_stated rs))
 
-pub records_recorded : (m : Model) → All Fit (alternatives m) → recorded fresh (records m) ≡ journal_of m
+pub records_recorded : (m : Model) → AllByRecursion Fit (alternatives m) → recorded fresh (records m) ≡ journal_of m
 records_recorded m fit =
     declares_recorded fresh (alternatives m) (map rule_entry (rules m) ++ (end ∷ [])) fit
     ∙ states_recorded (record { declared = alternatives m; stated = []; supposed = replicate 16 0; notes = [] }) (rules m)
 
-rules_back : (rs : List Rule) → All (λ r. canonical r ≡ true) rs → map as_rule (map as_stated rs) ≡ rs
+rules_back : (rs : List Rule) → AllByRecursion (λ r. canonical r ≡ true) rs → map as_rule (map as_stated rs) ≡ rs
 rules_back [] h = refl
 rules_back (r ∷ rs) h = ap (λ (s : Rule). s ∷ map as_rule (map as_stated rs)) (rule_back r h.0) ∙ ap (λ ss. r ∷ ss) (rules_back rs h.1)
 
@@ -76,7 +73,7 @@ module _ (m : Model) (s : Suppositions) (unsupposed : s.choices ≡ replicate 16
       }
 
   -- a model that agrees with the journal of the card of m, as a loaded one does, is m
-  pub stored_determines : All Fit (alternatives m) → (n : Model) → Agrees (recorded fresh (walked (stored m)).records) n s → n ≡ m
+  pub stored_determines : AllByRecursion Fit (alternatives m) → (n : Model) → Agrees (recorded fresh (walked (stored m)).records) n s → n ≡ m
   stored_determines fit n g =
       let is = ap (λ (w : Walk). recorded fresh w.records) (stored_walked m) ∙ records_recorded m fit in
       (determined (journal_of m) n m s s (subst (λ (j : Journal). Agrees j n s) is g) model_agrees).0

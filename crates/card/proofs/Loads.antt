@@ -1,5 +1,5 @@
 -- The calls that records make.
-use Rattle.std.proofs.Common.{◌≡◌, ℕ, ◌+◌, ◌-◌, ◌<◌, ◌≤◌, true, List, [], ◌∷◌, length, is_ok, IfOk, Some, None, Ok, Err, Option, Result, sym, refl, ap, ◌∙◌, subst, arith}
+use Rattle.std.proofs.Common.{◌≡◌, ℕ, ◌+◌, ◌-◌, ◌<◌, ◌≤◌, List, [], ◌∷◌, length, is_ok, IfOk, Some, None, Ok, Err, Option, Result, sym, refl, ap, ◌∙◌, subst, arith}
 use Rattle.model.specs.declared.literal.Literal.{Literal}
 use Rattle.model.specs.declared.model.Model.{Model}
 use Rattle.model.specs.declared.refusal.Refusal.{Refusal}
@@ -8,7 +8,6 @@ use Rattle.model.specs.declared.suppositions.Suppositions.{Suppositions}
 use Rattle.model.specs.Journal.{Journal, Agrees, feed, declares, states}
 use Rattle.model.specs.Models.{alternatives, rules, declaring, stating, outcome}
 use Rattle.card.specs.declared.fault.Fault.{Fault}
-use Rattle.card.specs.declared.fault.Fault.TheVariants.{Refused}
 use Rattle.card.specs.Encoding.{Entry, alternative, rule, end, encoding}
 use Rattle.card.specs.declared.reader.Record.{Record}
 use Rattle.card.specs.declared.reader.Record.TheVariants.{Alternative, Rule, End}

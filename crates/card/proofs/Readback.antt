@@ -1,7 +1,7 @@
 -- A card that was written is read back as what was written.
 use Rattle.std.proofs.Common.{◌≡◌, ℕ, ◌+◌, ◌/◌, ◌%◌, ◌^◌, ◌<◌, ◌≤◌, true, List, [], ◌∷◌, ◌++◌, map, length, take, Some, None, Ok, Option, Result, sym, refl, ap, ◌∙◌, add-zero, arith}
 use native.Mathlib.Nat.{div-add-mod, div-div-eq-div-mul}
-use Rattle.std.specs.List.{flat_map, AllByRecursion as All}
+use Rattle.std.specs.List.{flat_map, AllByRecursion}
 use Rattle.std.proofs.ByRecursion.{All-append, All-map, All-weaker}
 use Rattle.std.proofs.lemmas.List.{append_assoc, append-nil, length-append, length-take-le}
 use Rattle.std.proofs.lemmas.Bool.{and_from, eq-eqb}
@@ -40,7 +40,7 @@ weight_back n h =
     let last : n / (256 ^ 3) % 256 ≡ n / (256 ^ 3) = omega arith in
     omega arith
 
-pub weights_back : (ws : List ℕ) → All (λ w. w < 2 ^ 32) ws → weights (flat_map weight_bytes ws) ≡ ws
+pub weights_back : (ws : List ℕ) → AllByRecursion (λ w. w < 2 ^ 32) ws → weights (flat_map weight_bytes ws) ≡ ws
 weights_back [] h = refl
 weights_back (w ∷ ws) h =
     let first = weight_back w h.0 in
@@ -79,7 +79,7 @@ pub stored_walked : (m : Model) → walked (stored m) ≡ record { records = rec
 stored_walked m = whole_walked (stored m) (records m) (stored_whole m)
 
 -- alternatives that are written are declared again, one after the other
-pub alternatives_back : (at : ℕ) (before as' : List (List ℕ)) (es : List Entry) (fault : Option Fault) → All Choices as' → All Fit as' → length before + length as' ≤ 16
+pub alternatives_back : (at : ℕ) (before as' : List (List ℕ)) (es : List Entry) (fault : Option Fault) → AllByRecursion Choices as' → AllByRecursion Fit as' → length before + length as' ≤ 16
     → loaded_from at (record { alternatives = before; rules = [] }) (map alternative_entry as' ++ es) fault
     ≡ loaded_from (at + length (flat_map encoding (map alternative_entry as'))) (record { alternatives = before ++ as'; rules = [] }) es fault
 alternatives_back at before [] es fault choices fit room =
@@ -98,7 +98,7 @@ alternatives_back at before (ws ∷ as') es fault choices fit room =
     ∙ ap (λ as''. loaded_from (at + length (flat_map encoding (map alternative_entry (ws ∷ as')))) (record { alternatives = as''; rules = [] }) es fault) (append_assoc before (ws ∷ []) as')
 
 -- so a model's card is loaded as its alternatives, and what its rules make of them
-pub stored_loaded : (m : Model) → All Fit (alternatives m)
+pub stored_loaded : (m : Model) → AllByRecursion Fit (alternatives m)
     → loaded (stored m) ≡ loaded_from (length (flat_map encoding (map alternative_entry (alternatives m)))) (record { alternatives = alternatives m; rules = [] }) (map rule_entry (rules m) ++ (end ∷ [])) None
 stored_loaded m fit =
     let few = alternatives_count m.alternatives m.declared (omega (arith, m.few, m.places)) in
@@ -132,7 +132,7 @@ onto_put : (at : ℕ) (as' : List (List ℕ)) (o : Option (List Rule)) (puts : L
 onto_put at as' (Some rs) puts calls after rest run = rest rs run
 onto_put at as' None puts calls after rest run = cc
 
-pub rules_stated : (at : ℕ) (as' : List (List ℕ)) (rs before after : List Rule) → All (λ r. judge_rule (sizes as') r.head (model.literals r) ≡ None) rs → All (λ r. canonical r ≡ true) rs
+pub rules_stated : (at : ℕ) (as' : List (List ℕ)) (rs before after : List Rule) → AllByRecursion (λ r. judge_rule (sizes as') r.head (model.literals r) ≡ None) rs → AllByRecursion (λ r. canonical r ≡ true) rs
     → kept_all rule_below rule_before 128 before rs ≡ Some after
     → loaded_from at (record { alternatives = as'; rules = before }) (map rule_entry rs ++ (end ∷ [])) None ≡ Ok (record { alternatives = as'; rules = after })
 rules_stated at as' [] before after free canon run = ap (λ rs. Ok (record { alternatives = as'; rules = listing rs })) run
@@ -149,7 +149,7 @@ rules_stated at as' (r ∷ rs) before after free canon run =
 
 -- so the card of a model is accepted, and what it is loaded into holds the same
 module _ (m : Model) where
-  rules_free : All (λ r. judge_rule (sizes (alternatives m)) r.head (model.literals r) ≡ None) (rules m)
+  rules_free : AllByRecursion (λ r. judge_rule (sizes (alternatives m)) r.head (model.literals r) ≡ None) (rules m)
   rules_free =
       let same = sizes_same (take m.declared m.alternatives) m.canonical in
       all_taken (sizes (alternatives m)) (rules m) (ap (λ ns. sound_rules ns (rules m)) same ∙ m.sound)
@@ -160,7 +160,7 @@ module _ (m : Model) where
       let some = kept_all_some rule_below rule_before 128 (rules m) [] (omega (arith, m.within)) in
       some.1 ∙ ap Some (ap listing (sym some.1) ∙ m.minimal)
 
-  pub reads_back : All Fit (alternatives m) → ReadsBack m
+  pub reads_back : AllByRecursion Fit (alternatives m) → ReadsBack m
   reads_back fit =
       let is : loaded (stored m) ≡ Ok (holding m) = stored_loaded m fit ∙ rules_stated _ (alternatives m) (rules m) [] (rules m) rules_free (model_canonical m) rules_settled in
       record {

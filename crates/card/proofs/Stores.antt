@@ -1,6 +1,6 @@
 -- The parts of a model's card, and how many bytes they have.
 use Rattle.std.proofs.Common.{◌≡◌, ℕ, ◌+◌, ◌*◌, ◌/◌, ◌≤◌, true, List, [], ◌∷◌, ◌++◌, map, length, take, drop, codes, sym, refl, ap, ◌∙◌, subst, arith}
-use Rattle.std.specs.List.{flat_map, AllByRecursion as All}
+use Rattle.std.specs.List.{flat_map, AllByRecursion}
 use Rattle.std.proofs.ByRecursion.{All-weaker}
 use Rattle.std.proofs.lemmas.List.{append_assoc, length-append, length-take-le}
 use Rattle.std.proofs.lemmas.Bool.{and_parts}
@@ -37,7 +37,7 @@ joined_map : {X Y : Type 0} (f : Y → List ℕ) (g : X → Y) (xs : List X) →
 joined_map f g [] = refl
 joined_map f g (x ∷ xs) = ap (λ bs. f (g x) ++ bs) (joined_map f g xs)
 
-all_unmap : {X Y : Type 0} (P : Y → Type 0) (g : X → Y) (xs : List X) → All P (map g xs) → All (λ x. P (g x)) xs
+all_unmap : {X Y : Type 0} (P : Y → Type 0) (g : X → Y) (xs : List X) → AllByRecursion P (map g xs) → AllByRecursion (λ x. P (g x)) xs
 all_unmap P g [] h = tt
 all_unmap P g (x ∷ xs) h = (h.0, all_unmap P g xs h.1)
 
@@ -68,7 +68,7 @@ Choices ws = (2 ≤ length ws) × (length ws ≤ 8)
 abbrev pub Short : Rule → Type 0
 Short r = length (literals r) ≤ 8
 
-canonical_choices : (as' : List Alternative) → canonical_alternatives as' ≡ true → All Choices (map weights_of as')
+canonical_choices : (as' : List Alternative) → canonical_alternatives as' ≡ true → AllByRecursion Choices (map weights_of as')
 canonical_choices [] h = tt
 canonical_choices (a ∷ as') h =
     let both = and_parts (canonical_alternative a) (canonical_alternatives as') h in
@@ -78,16 +78,16 @@ canonical_choices (a ∷ as') h =
     let high : a.choices ≤ 8 = grind (arith, nat_tests) in
     ((omega arith, omega arith), canonical_choices as' both.1)
 
-pub model_choices : (m : Model) → All Choices (alternatives m)
+pub model_choices : (m : Model) → AllByRecursion Choices (alternatives m)
 model_choices m = canonical_choices (take m.declared m.alternatives) m.canonical
 
-pub model_canonical : (m : Model) → All (λ r. canonical r ≡ true) (rules m)
+pub model_canonical : (m : Model) → AllByRecursion (λ r. canonical r ≡ true) (rules m)
 model_canonical m = sound_valid (sizes_of (take m.declared m.alternatives)) (rules m) m.sound
 
-pub model_short : (m : Model) → All Short (rules m)
+pub model_short : (m : Model) → AllByRecursion Short (rules m)
 model_short m = All-weaker (λ r. canonical r ≡ true) Short (λ r h. let c = canonical_is r h in omega (arith, c.few, c.counted)) (rules m) (model_canonical m)
 
-alternatives_bound : (as' : List (List ℕ)) → All Choices as' → length (flat_map encoding (map alternative_entry as')) ≤ 35 * length as'
+alternatives_bound : (as' : List (List ℕ)) → AllByRecursion Choices as' → length (flat_map encoding (map alternative_entry as')) ≤ 35 * length as'
 alternatives_bound [] h = omega arith
 alternatives_bound (ws ∷ as') h =
     let rest = alternatives_bound as' h.1 in
@@ -95,7 +95,7 @@ alternatives_bound (ws ∷ as') h =
     let both = length-append (encoding (alternative_entry ws)) (flat_map encoding (map alternative_entry as')) in
     omega (arith, h.0.1)
 
-rules_bound : (rs : List Rule) → All Short rs → length (flat_map encoding (map rule_entry rs)) ≤ 28 * length rs
+rules_bound : (rs : List Rule) → AllByRecursion Short rs → length (flat_map encoding (map rule_entry rs)) ≤ 28 * length rs
 rules_bound [] h = omega arith
 rules_bound (r ∷ rs) h =
     let rest = rules_bound rs h.1 in
@@ -138,11 +138,11 @@ module _ (m : Model) where
         let all = ap length stored_parts ∙ length-append (flat_map alternative_bytes as' ++ flat_map rule_bytes rs) (codes "EN") in
         omega arith
 
-    pub few_weights : All (λ a. length (weights_of a) ≤ 8) as'
-    few_weights = all_unmap (λ ws. length ws ≤ 8) weights_of as' (subst (All (λ ws. length ws ≤ 8)) (sym as_is) (All-weaker Choices (λ ws. length ws ≤ 8) (λ ws h. h.1) (alternatives m) (model_choices m)))
+    pub few_weights : AllByRecursion (λ a. length (weights_of a) ≤ 8) as'
+    few_weights = all_unmap (λ ws. length ws ≤ 8) weights_of as' (subst (AllByRecursion (λ ws. length ws ≤ 8)) (sym as_is) (All-weaker Choices (λ ws. length ws ≤ 8) (λ ws h. h.1) (alternatives m) (model_choices m)))
 
-    pub few_literals : All Short rs
-    few_literals = subst (All Short) (sym rs-is) (model_short m)
+    pub few_literals : AllByRecursion Short rs
+    few_literals = subst (AllByRecursion Short) (sym rs-is) (model_short m)
 
     -- the alternatives, then the rules, then the end record are written at the front
     module _ (before one two three : List ℕ) (at mid end' : ℕ) (room : length (stored m) ≤ length before) where

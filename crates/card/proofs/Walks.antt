@@ -1,14 +1,13 @@
 -- The walk over a card: steps do not run out, what is accepted is exactly the encodings of its records, and the reverse.
-use Rattle.std.proofs.Common.{◌≡◌, ℕ, zero, suc, ◌+◌, ◌-◌, ◌<◌, ◌≤◌, List, [], ◌∷◌, ◌++◌, length, drop, Some, None, Ok, Err, Option, Result, sym, refl, ap, ◌∙◌, subst, arith, MatchResult}
-use Rattle.std.specs.List.{flat_map, AllByRecursion as All}
+use Rattle.std.proofs.Common.{◌≡◌, ℕ, zero, suc, ◌+◌, ◌-◌, ◌<◌, ◌≤◌, List, [], ◌∷◌, ◌++◌, length, drop, Some, None, Ok, Err, Option, Result, sym, refl, ap, ◌∙◌, arith, MatchResult}
+use Rattle.std.specs.List.{flat_map, AllByRecursion}
 use Rattle.std.proofs.lemmas.List.{append_assoc, append-nil, drop_all, drop_at, drop-drop, flat_map_more, length-append}
 use Rattle.std.proofs.ByRecursion.{All-append}
 use Rattle.card.specs.declared.contents.Contents.{Contents}
 use Rattle.card.specs.declared.fault.Fault.{Fault}
-use Rattle.card.specs.declared.fault.Fault.TheVariants.{EndsEarly}
 use Rattle.card.specs.Encoding.{Entry, alternative, rule, end, encoding, Framed}
 use Rattle.card.specs.Reading.{front, step}
-use Rattle.card.specs.Walking.{Walk, stopped, preceded, onward, walk_by, walked, counted, nothing, answered, Closed, Open, Whole, Broken}
+use Rattle.card.specs.Walking.{Walk, preceded, onward, walk_by, walked, counted, nothing, answered, Closed, Open, Whole, Broken}
 use Rattle.card.proofs.Framing.{Begins, front_begins, front_reads, encoding_some, step_fits}
 
 onward_same : (r : Result Entry Fault) (f g : ℕ → Walk) → ((e : Entry) → r ≡ Ok e → f (length (encoding e)) ≡ g (length (encoding e))) → onward r f ≡ onward r g
@@ -38,7 +37,7 @@ walk_on card at r is =
 
 -- which records were passed on the way to an offset
 record Passed (card : List ℕ) (es : List Entry) (at : ℕ) : Type 0 where
-  framed : All Framed es
+  framed : AllByRecursion Framed es
   open_ended : Open es
   bytes : card ≡ flat_map encoding es ++ drop at card
   size : at ≡ length (flat_map encoding es)
@@ -73,7 +72,7 @@ module _ (card : List ℕ) (es : List Entry) (at : ℕ) (p : Passed card es at) 
     bytes_more : card ≡ flat_map encoding (es ++ (e ∷ [])) ++ begun.rest
     bytes_more = p.bytes ∙ ap (λ bs. flat_map encoding es ++ bs) begun.is ∙ sym (append_assoc (flat_map encoding es) (encoding e) begun.rest) ∙ ap (λ bs. bs ++ begun.rest) (sym pushed)
 
-    framed_more : All Framed (es ++ (e ∷ []))
+    framed_more : AllByRecursion Framed (es ++ (e ∷ []))
     framed_more = All-append Framed es (e ∷ []) p.framed (begun.framed, tt)
 
     passed_more : Open (e ∷ []) → Passed card (es ++ (e ∷ [])) (at + length (encoding e))
@@ -135,7 +134,7 @@ module _ (es : List Entry) (before : List ℕ) (e : Entry) (framed : Framed e) w
       → walk_at ((before ++ encoding e) ++ flat_map encoding es) (length before + length (encoding e)) ≡ record { records = es; fault = None }
   next_found h = ap (walk_at ((before ++ encoding e) ++ flat_map encoding es)) (sym (length-append before (encoding e))) ∙ h
 
-walk_finds : (es : List Entry) (before : List ℕ) → All Framed es → Closed es → walk_at (before ++ flat_map encoding es) (length before) ≡ record { records = es; fault = None }
+walk_finds : (es : List Entry) (before : List ℕ) → AllByRecursion Framed es → Closed es → walk_at (before ++ flat_map encoding es) (length before) ≡ record { records = es; fault = None }
 walk_finds [] before framed closed = absurd closed
 walk_finds (end ∷ es) before framed closed = walk_passes es before end framed.0 (λ same. ap (flat_map encoding) closed) ∙ ap (λ rest. record { records = end ∷ rest; fault = None }) (sym closed)
 walk_finds (alternative ws ∷ es) before framed closed =

@@ -1,15 +1,15 @@
 -- What a card makes of an empty model, record by record.
-use Rattle.std.specs.Prelude.{ℕ, ◌+◌, true, List, [], ◌∷◌, ◌++◌, length, Some, None, Ok, Err, Option, Result}
+use Rattle.std.specs.Prelude.{ℕ, ◌+◌, true, List, [], ◌∷◌, length, Some, None, Ok, Err, Option, Result}
 use Rattle.model.specs.declared.literal.Literal.{Literal}
 use Rattle.model.specs.declared.model.Model.{Model}
 use Rattle.model.specs.declared.refusal.Refusal.{Refusal}
 use Rattle.model.specs.declared.rule.Rule.{Rule}
-use Rattle.model.specs.Journal.{Journal, Call, declares, states, fresh, feed}
+use Rattle.model.specs.Journal.{Journal, declares, states, feed}
 use Rattle.model.specs.Models.{alternatives, rules, declaring, stating}
 use Rattle.card.specs.declared.fault.Fault.{Fault}
 use Rattle.card.specs.declared.fault.Fault.TheVariants.{Refused}
 use Rattle.card.specs.Encoding.{Entry, alternative, rule, end, encoding, value}
-use Rattle.card.specs.Walking.{Walk, walked}
+use Rattle.card.specs.Walking.{walked}
 
 -- the raw weights that bytes mean, four bytes to a weight
 abbrev pub weights : List ℕ → List ℕ

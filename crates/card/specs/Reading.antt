@@ -1,5 +1,5 @@
 -- Which record stands at an offset of a card, or which fault.
-use Rattle.std.specs.Prelude.{ℕ, ◌+◌, ◌*◌, Bool, true, false, cond, ◌&&◌, List, [], ◌∷◌, length, take, drop, Ok, Err, codes, Result, ◌==◌, nat_le, slice_index}
+use Rattle.std.specs.Prelude.{ℕ, ◌+◌, ◌*◌, Bool, cond, ◌&&◌, List, [], ◌∷◌, length, take, drop, Ok, Err, codes, Result, ◌==◌, nat_le, slice_index}
 use Prim.Native.String.{String}
 use Rattle.card.specs.declared.fault.Fault.{Fault}
 use Rattle.card.specs.declared.fault.Fault.TheVariants.{NumberOfChoices, NumberOfLiterals, UnknownTag, EndsEarly, BytesAfterEnd}

@@ -1,6 +1,6 @@
 -- The card that a model is written as.
 use Rattle.std.specs.Prelude.{◌≡◌, ℕ, ◌+◌, ◌/◌, ◌%◌, ◌^◌, ◌<◌, List, [], ◌∷◌, ◌++◌, map, length, take, drop, Ok}
-use Rattle.std.specs.List.{flat_map, AllByRecursion as All}
+use Rattle.std.specs.List.{flat_map, AllByRecursion}
 use Rattle.model.specs.declared.alternative.Alternative.{Alternative}
 use Rattle.model.specs.declared.literal.Literal.{Literal}
 use Rattle.model.specs.declared.model.Model.{Model}
@@ -48,7 +48,7 @@ Written before after at bytes = after ≡ take at before ++ (bytes ++ drop (at +
 
 -- raw weights that four bytes can hold
 abbrev pub Fit : List ℕ → Type 0
-Fit weights = All (λ w. w < 2 ^ 32) weights
+Fit weights = AllByRecursion (λ w. w < 2 ^ 32) weights
 
 -- the card of a model is accepted, and whatever it is loaded into is that model, equal as a value: so it has the same card
 pub record ReadsBack (m : Model) : Type 0 where

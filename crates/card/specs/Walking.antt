@@ -1,6 +1,6 @@
 -- The records of a whole card, one after the other, up to its end or its first fault.
 use Rattle.std.specs.Prelude.{◌≡◌, ℕ, zero, suc, ◌+◌, List, [], ◌∷◌, ◌++◌, length, Some, None, Ok, Err, codes, decimal, Option, Result}
-use Rattle.std.specs.List.{flat_map, AllByRecursion as All}
+use Rattle.std.specs.List.{flat_map, AllByRecursion}
 use Rattle.card.specs.declared.contents.Contents.{Contents}
 use Rattle.card.specs.declared.fault.Fault.{Fault}
 use Rattle.card.specs.declared.fault.Fault.TheVariants.{EndsEarly}
@@ -69,13 +69,13 @@ Open (rule head literals ∷ es) = Open es
 
 -- the card is exactly these records, one after the other, the end record last and only there
 pub record Whole (card : List ℕ) (es : List Entry) : Type 0 where
-  pub framed : All Framed es
+  pub framed : AllByRecursion Framed es
   pub closed : Closed es
   pub bytes : card ≡ flat_map encoding es
 
 -- the card begins with these records, the end record not among them, and has the fault right behind them
 pub record Broken (card : List ℕ) (es : List Entry) (f : Fault) : Type 0 where
-  pub framed : All Framed es
+  pub framed : AllByRecursion Framed es
   pub open_ended : Open es
   pub rest : List ℕ
   pub bytes : card ≡ flat_map encoding es ++ rest

@@ -1,4 +1,6 @@
 //! Cards: a model as bytes, record by record.
+#![tactic(auto)]
+
 mod contents;
 mod fault;
 mod loading;

@@ -1,5 +1,5 @@
 ghost use Rattle.std.specs.Prelude.{◌≡◌, ◌+◌, ◌<◌, ◌≤◌, true, ◌++◌, length, drop, is_ok, MatchResult};
-ghost use Rattle.std.specs.List.{flat_map, AllByRecursion as All};
+ghost use Rattle.std.specs.List.{flat_map, AllByRecursion};
 ghost use Rattle.model.specs.Alternatives.{weights_of};
 ghost use Rattle.model.specs.Rules.{literals};
 ghost use Rattle.card.specs.Storing.{weight_bytes, literal_bytes, alternative_bytes, rule_bytes, stored, Written, Fit, ReadsBack};
@@ -50,10 +50,10 @@ fn size_of_rules(rules: &[Rule]) -> usize
 /// Writes the records of these alternatives from `at` on, and says where they end.
 fn write_alternatives(buffer: &mut [u8], at: usize, alternatives: &[Alternative]) -> usize
     requires room { at + length (flat_map alternative_bytes alternatives.now) ≤ length buffer.old }
-    requires few { All (λ a. length (weights_of a) ≤ 8) alternatives.now }
+    requires few { AllByRecursion (λ a. length (weights_of a) ≤ 8) alternatives.now }
     ensures end { result ≡ at + length (flat_map alternative_bytes alternatives.now) }
     ensures written { Written buffer.old buffer.new at (flat_map alternative_bytes alternatives.now) }
-    ensures fit { All (λ a. Fit (weights_of a)) alternatives.now }
+    ensures fit { AllByRecursion (λ a. Fit (weights_of a)) alternatives.now }
 {
     let mut end = at;
     for alternative in alternatives {
@@ -93,7 +93,7 @@ fn write_weights(buffer: &mut [u8], at: usize, weights: &[u32]) -> usize
 /// Writes the records of these rules from `at` on, and says where they end.
 fn write_rules(buffer: &mut [u8], at: usize, rules: &[Rule]) -> usize
     requires room { at + length (flat_map rule_bytes rules.now) ≤ length buffer.old }
-    requires few { All (λ r. length (literals r) ≤ 8) rules.now }
+    requires few { AllByRecursion (λ r. length (literals r) ≤ 8) rules.now }
     ensures end { result ≡ at + length (flat_map rule_bytes rules.now) }
     ensures written { Written buffer.old buffer.new at (flat_map rule_bytes rules.now) }
 {

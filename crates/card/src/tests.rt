@@ -134,8 +134,8 @@ fn a_model_is_written_as_its_card(rt: HostRuntime) {
     let card = b"AL\x02\x01\x02\x03\x04\0\0\0\0RU\x01\x01\x02\x01\x01RU\x02\0EN";
     let mut buffer = [9; 26];
     assert!(rt; store(&model, &mut buffer) == Ok(24));
-    assert_eq!(rt; &buffer[0..24], card);
-    assert_eq!(rt; &buffer[24..26], &[9, 9]);
+    assert_eq!(rt; &buffer[0..24], card.as_slice());
+    assert_eq!(rt; &buffer[24..26], [9, 9].as_slice());
     let mut copy = Model::new();
     assert!(rt; load(&mut copy, &buffer[0..24]) == Ok(()));
     assert!(rt; copy == model);
@@ -149,7 +149,7 @@ fn a_buffer_that_is_too_short_stays(rt: HostRuntime) {
     assert!(rt; store(&model, &mut buffer[0..38]) == Err(Refusal::ShortBuffer));
     assert_eq!(rt; &buffer, &[9; 39]);
     assert!(rt; store(&model, &mut buffer) == Ok(39));
-    assert_eq!(rt; &buffer, board());
+    assert_eq!(rt; buffer.as_slice(), board());
 }
 
 // A refused card leaves the empty model; an accepted one is written and loaded again as the same model.

@@ -1,4 +1,6 @@
 //! Reads a card from standard input, and says which atoms its rules are about, or why it is refused.
+#![tactic(auto)]
+
 ghost use Rattle.std.specs.Prelude.{◌≡◌, ℕ, length, filter, nat_eq};
 
 use anyhow::anyhow;

@@ -14,6 +14,6 @@ returns-in-Ok c =
     record {
       defined = told.defined ∙ ap (λ h. loaded_from 0 h (walked card).records (walked card).fault) (holding_none new c.new.ensures.alternatives c.new.ensures.rules);
       refused = tt;
-      law = loaded_whole card (holding new) (holding c.take-records.new.model) told.defined;
+      law = loaded_whole card (holding new) (holding c.take_records.new.model) told.defined;
       journal = λ s none. told.journal fresh s (agrees_fresh new s none c.new.ensures.alternatives c.new.ensures.rules);
     }

@@ -11,9 +11,9 @@ loop-i-preserved c =
     let bytes = c.args.bytes.now in
     let i = c.loop-i.i in
     let here : i < length bytes / 4 = omega arith in
-    let is : value (take 4 (drop (4 * i) bytes)) ≡ c.unwrap-or.result = sym (c.unwrap-or.ensures ∙ ap (λ o. unwrap_or o 0) (c.raw_weight.ensures ∙ cond-true _ _ _ (lt-ltb i (length bytes / 4) here))) in (
+    let is : value (take 4 (drop (4 * i) bytes)) ≡ c.unwrap_or.result = sym (c.unwrap_or.ensures ∙ ap (λ o. unwrap_or o 0) (c.raw_weight.ensures ∙ cond-true _ _ _ (lt-ltb i (length bytes / 4) here))) in (
       length-set c.loop-i.table i _ ∙ inv.0,
-      filling_more weights 4 bytes c.loop-i.table i c.unwrap-or.result inv.1 (omega arith) (weights_here bytes i here ∙ ap (λ w. w ∷ weights (drop 4 (drop (4 * i) bytes))) is),
+      filling_more weights 4 bytes c.loop-i.table i c.unwrap_or.result inv.1 (omega arith) (weights_here bytes i here ∙ ap (λ w. w ∷ weights (drop 4 (drop (4 * i) bytes))) is),
     )
 
 pub returns : goal.returns

@@ -1,4 +1,4 @@
-use Rattle.std.proofs.Common.{◌≡◌, ◌≤◌, length}
+use Rattle.std.proofs.Common.{◌≡◌, length}
 use Rattle.card.specs.Loading.{weights}
 use Rattle.card.proofs.Decoding.{Filling}
 use Rattle.card.proofs.loading.read_weights.Given as goal

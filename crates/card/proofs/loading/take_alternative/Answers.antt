@@ -5,10 +5,10 @@ use Rattle.card.proofs.loading.take_alternative.Goals as goal
 
 pub returns : goal.returns
 returns c =
-    let table = c.read-weights-count.result.0 in
-    let count = c.read-weights-count.result.1 in
+    let table = c.read_weights-count.result.0 in
+    let count = c.read_weights-count.result.1 in
     let ws = take (count - 0) table in
-    let is = ap (λ n. take n table) (sub-zero count) ∙ c.read-weights-count.ensures.1 in
+    let is = ap (λ n. take n table) (sub-zero count) ∙ c.read_weights-count.ensures.1 in
     let told = c.declare.ensures in
     record {
       defined = took_alternative c.declare.result c.args.model.now c.declare.new.self c.args.bytes.now ws is told.defined told.rules;

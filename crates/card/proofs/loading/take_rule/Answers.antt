@@ -5,10 +5,10 @@ use Rattle.card.proofs.loading.take_rule.Goals as goal
 
 pub returns : goal.returns
 returns c =
-    let table = c.read-literals-count.result.0 in
-    let count = c.read-literals-count.result.1 in
+    let table = c.read_literals-count.result.0 in
+    let count = c.read_literals-count.result.1 in
     let ls = take (count - 0) table in
-    let is = ap (λ n. take n table) (sub-zero count) ∙ c.read-literals-count.ensures.1 in
+    let is = ap (λ n. take n table) (sub-zero count) ∙ c.read_literals-count.ensures.1 in
     let told = c.state.ensures in
     record {
       defined = took_rule c.state.result c.args.model.now c.state.new.self c.args.bytes.now c.args.head ls is told.defined told.alternatives;

@@ -3,4 +3,4 @@ use Rattle.card.proofs.Opening.{ru_found}
 use Rattle.card.proofs.reader.rule.Goals as goal
 
 pub returns : goal.returns
-returns c = ru_found c.args.offset c.in-ok-literals.literals.now c.args.body.now (search rules) (search rules) c.in-ok-literals.ensures
+returns c = ru_found c.args.offset c.in_ok-literals.literals.now c.args.body.now (search rules) (search rules) c.in_ok-literals.ensures

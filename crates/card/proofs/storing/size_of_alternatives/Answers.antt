@@ -6,8 +6,8 @@ use Rattle.card.proofs.Stores.{weights_size}
 use Rattle.card.proofs.Writes.{sized_at, sized_next, sized_all}
 use Rattle.card.proofs.storing.size_of_alternatives.Goals as goal
 
-pub overflow-add-size-in-loop-alternative : goal.overflow-add-size-in-loop-alternative
-overflow-add-size-in-loop-alternative c =
+pub overflow_add-size-in-loop-alternative : goal.overflow_add-size-in-loop-alternative
+overflow_add-size-in-loop-alternative c =
     let here = get_or c.args.alternatives.now c.loop-alternative.alternative-index nowhere in
     let fits = sized_at alternative_bytes c.args.alternatives.now c.loop-alternative.alternative-index nowhere (omega arith) in
     let size = weights_size (weights_of here) in

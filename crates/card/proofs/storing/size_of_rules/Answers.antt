@@ -5,8 +5,8 @@ use Rattle.card.proofs.Stores.{no_rule, literals_size}
 use Rattle.card.proofs.Writes.{sized_at, sized_next, sized_all}
 use Rattle.card.proofs.storing.size_of_rules.Goals as goal
 
-pub overflow-add-size-in-loop-rule : goal.overflow-add-size-in-loop-rule
-overflow-add-size-in-loop-rule c =
+pub overflow_add-size-in-loop-rule : goal.overflow_add-size-in-loop-rule
+overflow_add-size-in-loop-rule c =
     let here = get_or c.args.rules.now c.loop-rule.rule-index no_rule in
     let fits = sized_at rule_bytes c.args.rules.now c.loop-rule.rule-index no_rule (omega arith) in
     let size = literals_size (literals here) in

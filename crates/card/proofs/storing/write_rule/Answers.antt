@@ -7,7 +7,7 @@ pub returns : goal.returns
 returns c =
     let numbers = subst (λ h. Written c.write-at.new.buffer c.write-at-2.new.buffer c.write-at.result (h ∷ length c.body-body.result.now ∷ [])) c.head.ensures c.write-at-2.ensures.written in
     let all =
-    rule_written c.args.buffer.now c.write-at.new.buffer c.write-at-2.new.buffer c.write-literals.new.buffer c.args.at c.write-at.result c.write-at-2.result c.write-literals.result (omega (arith, c.requires.room)) c.write-at.ensures.end
-    c.args.rule.now c.body-body.result.now c.body-body.ensures c.write-at-2.ensures.end c.write-literals.ensures.end
-    c.write-at.ensures.written numbers c.write-literals.ensures.written in
+    rule_written c.args.buffer.now c.write-at.new.buffer c.write-at-2.new.buffer c.write_literals.new.buffer c.args.at c.write-at.result c.write-at-2.result c.write_literals.result (omega (arith, c.requires.room)) c.write-at.ensures.end
+    c.args.rule.now c.body-body.result.now c.body-body.ensures c.write-at-2.ensures.end c.write_literals.ensures.end
+    c.write-at.ensures.written numbers c.write_literals.ensures.written in
     record { end = all.0; written = all.1 }

@@ -9,8 +9,8 @@ use Rattle.card.proofs.storing.write_rules.Goals as goal
 pub loop-rule-init : goal.loop-rule-init
 loop-rule-init c = writing_none rule_bytes c.args.rules.now c.args.buffer.now c.args.at
 
-pub write-rule-end-requires : goal.write-rule-end-requires
-write-rule-end-requires c =
+pub write_rule-end-requires : goal.write_rule-end-requires
+write_rule-end-requires c =
     let i = c.loop-rule.rule-index in
     let fits = writing_room rule_bytes c.args.rules.now c.args.buffer.now c.args.at c.requires.room c.loop-rule.buffer c.loop-rule.end i c.loop-rule.invariant no_rule (omega arith) in
     record { room = omega arith; few = All-get_or (λ r. length (literals r) ≤ 8) c.args.rules.now i no_rule (omega arith) c.requires.few }
@@ -18,7 +18,7 @@ write-rule-end-requires c =
 pub loop-rule-preserved : goal.loop-rule-preserved
 loop-rule-preserved c =
     writing_more rule_bytes c.args.rules.now c.args.buffer.now c.args.at c.requires.room c.loop-rule.buffer c.loop-rule.end c.loop-rule.rule-index c.loop-rule.invariant no_rule (omega arith)
-    c.write-rule-end.new.buffer c.write-rule-end.result c.write-rule-end.ensures.end c.write-rule-end.ensures.written
+    c.write_rule-end.new.buffer c.write_rule-end.result c.write_rule-end.ensures.end c.write_rule-end.ensures.written
 
 pub returns : goal.returns
 returns c =

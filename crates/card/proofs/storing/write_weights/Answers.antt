@@ -10,12 +10,12 @@ loop-weight-init c = writing_none weight_bytes c.args.weights.now c.args.buffer.
 pub write-end-requires : goal.write-end-requires
 write-end-requires c =
     let fits = writing_room weight_bytes c.args.weights.now c.args.buffer.now c.args.at c.requires c.loop-weight.buffer c.loop-weight.end c.loop-weight.weight-index c.loop-weight.invariant 0 (omega arith) in
-    let four = ap length c.to-le-bytes.ensures in
+    let four = ap length c.to_le_bytes.ensures in
     omega arith
 
 pub loop-weight-preserved : goal.loop-weight-preserved
 loop-weight-preserved c =
-    let bytes = c.to-le-bytes.ensures in
+    let bytes = c.to_le_bytes.ensures in
     writing_more weight_bytes c.args.weights.now c.args.buffer.now c.args.at c.requires c.loop-weight.buffer c.loop-weight.end c.loop-weight.weight-index c.loop-weight.invariant 0 (omega arith)
     c.write-end.new.buffer c.write-end.result (c.write-end.ensures.end ∙ ap (λ bs. c.loop-weight.end + length bs) bytes)
     (subst (Written c.loop-weight.buffer c.write-end.new.buffer c.loop-weight.end) bytes c.write-end.ensures.written)
@@ -23,4 +23,4 @@ loop-weight-preserved c =
 pub returns : goal.returns
 returns c =
     let all = writing_all weight_bytes c.args.weights.now c.args.buffer.now c.args.at c.loop-weight.buffer c.loop-weight.end c.loop-weight.weight-index c.loop-weight.invariant (omega arith) in
-    record { end = all.0; written = all.1; fit = All-from_get_or (λ w. w < 2 ^ 32) c.args.weights.now 0 (λ i _. (c.type-inv.weights i).fits) }
+    record { end = all.0; written = all.1; fit = All-from_get_or (λ w. w < 2 ^ 32) c.args.weights.now 0 (λ i _. (c.type_inv.weights i).fits) }
