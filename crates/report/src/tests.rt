@@ -12,7 +12,7 @@ fn reads(rt: &impl Abort, line: &Line, text: &[u8])
 {
     let mut buffer = [9; 80];
     let end = write_line(&mut buffer, 2, line);
-    assert_eq!(rt; &buffer[0..2], &[9, 9]);
+    assert_eq!(rt; &buffer[0..2], [9, 9].as_slice());
     assert_eq!(rt; &buffer[2..end], text);
     assert_eq!(rt; buffer[end], 9);
 }
