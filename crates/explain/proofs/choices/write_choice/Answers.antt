@@ -6,8 +6,8 @@ use Rattle.explain.proofs.Places.{rows_several, rows_fixed, rows_few}
 use Rattle.explain.proofs.choices.write_choice.Goals as goal
 
 -- the empty row, or none, as a test that was made by code says
-one-or-none : (before after : List code.Row) (end : ℕ) (t b : Bool) (r : Row) (more : List Row) → Appended before after 0 (cond t (r ∷ []) []) end → t ≡ b → r ≡ replicate 16 0 → more ≡ cond b (replicate 16 0 ∷ []) [] → Appended before after 0 more end
-one-or-none before after end t b r more a test row is =
+one_or_none : (before after : List code.Row) (end : ℕ) (t b : Bool) (r : Row) (more : List Row) → Appended before after 0 (cond t (r ∷ []) []) end → t ≡ b → r ≡ replicate 16 0 → more ≡ cond b (replicate 16 0 ∷ []) [] → Appended before after 0 more end
+one_or_none before after end t b r more a test row is =
     subst (λ ms. Appended before after 0 ms end) (sym is) (subst (λ (s : Row). Appended before after 0 (cond b (s ∷ []) []) end) row (subst (λ u. Appended before after 0 (cond u (r ∷ []) []) end) test a))
 
 pub returns-then-supposed-ne0 : goal.returns-then-supposed-ne0
@@ -16,7 +16,7 @@ returns-then-supposed-ne0 c =
     let p = like c.args.choice c.args.unlike in
     let is = rows_fixed c.args.model.now c.args.suppositions.now c.args.place (λ l. sym at.choice ∙ at.past l) p (λ e. c.if-supposed-ne0.true (at.choice ∙ e)) in
     record {
-      appended = one-or-none c.args.rows.now c.push_if.new.rows c.push_if.result c.is_like.result _ c.empty.result.choices _ c.push_if.ensures.appended (c.is_like.ensures ∙ ap p at.choice) c.empty.ensures is;
+      appended = one_or_none c.args.rows.now c.push_if.new.rows c.push_if.result c.is_like.result _ c.empty.result.choices _ c.push_if.ensures.appended (c.is_like.ensures ∙ ap p at.choice) c.empty.ensures is;
       few = omega (arith, c.push_if.ensures.few);
     }
 
@@ -26,7 +26,7 @@ returns-then-count-lt2 c =
     let p = like c.args.choice c.args.unlike in
     let is = rows_few c.args.model.now c.args.suppositions.now c.args.place (λ l. sym at.choice ∙ at.past l) p (sym at.choice ∙ c.if-supposed-ne0.false) (omega (arith, c.choices_at-count.ensures.count)) in
     record {
-      appended = one-or-none c.args.rows.now c.push_if-then-count-lt2.new.rows c.push_if-then-count-lt2.result c.is_like-then-count-lt2.result _ c.empty-then-count-lt2.result.choices _ c.push_if-then-count-lt2.ensures.appended (c.is_like-then-count-lt2.ensures ∙ ap p c.choices_at-count.ensures.count) c.empty-then-count-lt2.ensures is;
+      appended = one_or_none c.args.rows.now c.push_if-then-count-lt2.new.rows c.push_if-then-count-lt2.result c.is_like-then-count-lt2.result _ c.empty-then-count-lt2.result.choices _ c.push_if-then-count-lt2.ensures.appended (c.is_like-then-count-lt2.ensures ∙ ap p c.choices_at-count.ensures.count) c.empty-then-count-lt2.ensures is;
       few = omega (arith, c.push_if-then-count-lt2.ensures.few);
     }
 

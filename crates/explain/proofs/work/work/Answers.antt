@@ -5,8 +5,8 @@ use Rattle.explain.specs.Lists.{as_lists}
 use Rattle.explain.proofs.Appends.{front_lists}
 use Rattle.explain.proofs.work.work.Goals as goal
 
-lists-same : (own own' negated negated' : List logic.Row) → own ≡ own' → negated ≡ negated' → ◌≡◌ {A = Lists} (record { own = own; negated = negated }) (record { own = own'; negated = negated' })
-lists-same own own' negated negated' p q = λ i. record { own = p i; negated = q i }
+lists_same : (own own' negated negated' : List logic.Row) → own ≡ own' → negated ≡ negated' → ◌≡◌ {A = Lists} (record { own = own; negated = negated }) (record { own = own'; negated = negated' })
+lists_same own own' negated negated' p q = λ i. record { own = p i; negated = q i }
 
 pub returns : goal.returns
 returns c =
@@ -17,7 +17,7 @@ returns c =
     record {
       defined = λ t size tabled. (
         record { own = as_lists (take (n.own - 0) own); negated = as_lists (take (n.negated - 0) negated) },
-        sym (found.defined t tabled) ∙ ap Some (lists-same _ _ _ _ (sym (front_lists n.own own)) (sym (front_lists n.negated negated))),
+        sym (found.defined t tabled) ∙ ap Some (lists_same _ _ _ _ (sym (front_lists n.own own)) (sym (front_lists n.negated negated))),
         c.keep.ensures.tabled t size tabled,
       );
       narrow = c.keep.ensures.narrow;
