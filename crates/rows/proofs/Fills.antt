@@ -1,29 +1,27 @@
--- The turns of a loop that writes one element into each place of a slice from some place on.
-use Rattle.std.proofs.Common.{◌≡◌, ℕ, ◌+◌, ◌-◌, ◌<◌, ◌≤◌, List, [], ◌∷◌, ◌++◌, length, get_or, take, drop, set, replicate, sym, ap, ◌∙◌, arith}
-use native.Mathlib.Nat.{sub_self}
-use Rattle.std.proofs.lemmas.List.{append_assoc, append-nil, length-append, length-take, length-take-le, length-replicate, replicate_more, take-append-drop, drop_more, drop_all, set_at}
+-- Elements that are written into a slice: one into each place, and one more between others.
+use Rattle.std.proofs.Common.{◌≡◌, ℕ, ◌+◌, ◌-◌, ◌<◌, ◌≤◌, List, [], ◌∷◌, ◌++◌, length, take, drop, get_or, set, replicate, sym, refl, ap, ◌∙◌, arith}
+use Rattle.std.specs.List.{insert, copy_within}
+use Rattle.std.proofs.lemmas.List.{append_assoc, drop-take, drop_more, length-replicate, length-take-le, replicate_more, set_at, take-take, take_more}
 
-module _ {V : Type 0} (x : V) (from : ℕ) (es : List V) where
-  -- es with x in the places from `from` up to i
-  abbrev pub filled : ℕ → List V
-  filled i = take from es ++ (replicate (i - from) x ++ drop i es)
+pub filled_more : {V : Type 0} (x : V) (es : List V) (i : ℕ) → i < length es → set (replicate i x ++ drop i es) i x ≡ replicate (i + 1) x ++ drop (i + 1) es
+filled_more x es i h =
+    let front = replicate i x in
+    ap (λ l. set (front ++ l) i x) (drop_more es i x h) ∙ set_at front (get_or es i x) (drop (i + 1) es) x i (length-replicate i x)
+    ∙ sym (append_assoc front (x ∷ []) (drop (i + 1) es)) ∙ ap (λ l. l ++ drop (i + 1) es) (replicate_more i x)
 
-  pub filled_none : es ≡ filled from
-  filled_none = rw sub_self (sym (take-append-drop from es))
-
-  pub filled_more : (zs : List V) (i : ℕ) → from ≤ i → i < length es → zs ≡ filled i → set zs i x ≡ filled (i + 1)
-  filled_more zs i h k is =
-      let front = take from es ++ replicate (i - from) x in
-      let long : length front ≡ i = length-append (take from es) (replicate (i - from) x) ∙ rw (length-take-le from es (omega arith), length-replicate) (omega arith) in
-      let next : i + 1 - from ≡ i - from + 1 = omega arith in
-      ap (λ l. set l i x) (is ∙ ap (λ l. take from es ++ (replicate (i - from) x ++ l)) (drop_more es i x k) ∙ sym (append_assoc (take from es) (replicate (i - from) x) (get_or es i x ∷ drop (i + 1) es)))
-      ∙ set_at front (get_or es i x) (drop (i + 1) es) x i long
-      ∙ append_assoc (take from es) (replicate (i - from) x) (x ∷ drop (i + 1) es)
-      ∙ ap (λ l. take from es ++ l) (sym (append_assoc (replicate (i - from) x) (x ∷ []) (drop (i + 1) es)) ∙ ap (λ l. l ++ drop (i + 1) es) (replicate_more (i - from) x))
-      ∙ ap (λ n. take from es ++ (replicate n x ++ drop (i + 1) es)) (sym next)
-
-  pub filled_all : (zs : List V) (i : ℕ) → from ≤ i → length es ≤ i → length zs ≡ length es → (from ≤ length es → i ≤ length es) → zs ≡ filled i → zs ≡ take from es ++ replicate (length es - from) x
-  filled_all zs i h k same within is =
-      let sizes = ap length is ∙ length-append (take from es) (replicate (i - from) x ++ drop i es) ∙ ap (λ n. length (take from es) + n) (length-append (replicate (i - from) x) (drop i es)) in
-      let count : i - from ≡ length es - from = omega (arith, length-take from es, length-replicate (i - from) x) in
-      is ∙ ap (λ l. take from es ++ (replicate (i - from) x ++ l)) (drop_all i es k) ∙ ap (λ l. take from es ++ l) (append-nil (replicate (i - from) x)) ∙ ap (λ n. take from es ++ replicate n x) count
+-- those from the place on are one place further, and x is written there
+pub opened : {V : Type 0} (x : V) (es : List V) (held at : ℕ) → held < length es → at ≤ held
+    → set (copy_within es at held (at + 1)) at x ≡ insert (take held es) at x ++ drop (held + 1) es
+opened x es held at h k =
+    let moved = take (held - at) (drop at es) in
+    let rest = drop (at + 1 + (held - at)) es in
+    let there : at + (held - at) ≡ held = omega arith in
+    let next : at + 1 + (held - at) ≡ held + 1 = omega arith in
+    let front : take at (take held es) ≡ take at es = take-take at held es k in
+    let behind : drop at (take held es) ≡ moved = rw there at (drop-take at (held - at) es) in
+    ap (λ l. set l at x) (append_assoc (take (at + 1) es) moved rest)
+    ∙ ap (λ l. set (l ++ (moved ++ rest)) at x) (take_more es at x (omega arith))
+    ∙ ap (λ l. set l at x) (append_assoc (take at es) (get_or es at x ∷ []) (moved ++ rest))
+    ∙ set_at (take at es) (get_or es at x) (moved ++ rest) x at (length-take-le at es (omega arith))
+    ∙ sym (append_assoc (take at es) (x ∷ moved) rest)
+    ∙ rw (front, behind, next) refl

@@ -6,7 +6,7 @@ use Rattle.rows.specs.Minimal.{Among, AllValid, Ascending, Once, Minimals, Cover
 use Rattle.rows.specs.Orders.{Orders}
 use Rattle.rows.proofs.Members.{at_cond, same_tests, all_among, all_from_among, among_left, among_last, among_push, covered_some, covered_by, covered_none, spared_from, spared_to, spared_ascends, placed_from, placed_to}
 use Rattle.rows.proofs.Puts.{length_placed}
-use Rattle.rows.proofs.Turns.{spared_most}
+use Rattle.rows.proofs.Spares.{spared_most}
 
 pub some_same : {X : Type 0} {x y : X} → Some x ≡ Some y → x ≡ y
 some_same h = cc

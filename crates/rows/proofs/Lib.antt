@@ -1,7 +1,9 @@
+pub mod Chains
 pub mod Fills
 pub mod Kept
+pub mod Lends
 pub mod Members
 pub mod Pairs
 pub mod Pushes
 pub mod Puts
-pub mod Turns
+pub mod Spares

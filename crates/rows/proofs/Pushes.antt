@@ -8,7 +8,7 @@ use Rattle.rows.specs.Orders.{Orders}
 use Rattle.rows.proofs.Members.{at_cond, all_among, among_left}
 use Rattle.rows.proofs.Kept.{Stands, stands_next, stands_minimal, some_same, none_some, first_put}
 use Rattle.rows.proofs.Puts.{length_placed}
-use Rattle.rows.proofs.Turns.{spared_most}
+use Rattle.rows.proofs.Spares.{spared_most}
 
 module _ {V : Type 0} {valid : V → Bool} {below before : V → V → Bool} (o : Orders valid below before) where
   -- under each element of a list stands a minimal one

@@ -5,7 +5,7 @@ use Rattle.std.proofs.lemmas.List.Edits.{length-insert}
 use Rattle.std.proofs.lemmas.List.{take_all, take_at, drop_all, drop_at, drop-drop, length-take, length-take-le, at_drop_more}
 use Rattle.std.proofs.lemmas.Bool.{cond-true, cond-false, cond_both, le-leb, lt-leb, cases_lt}
 use Rattle.rows.specs.Keeping.{covered, spared, placed, kept, and_then, kept_all, shown}
-use Rattle.rows.proofs.Turns.{spared_most, spared_fewer}
+use Rattle.rows.proofs.Spares.{spared_most, spared_fewer}
 
 pub length_placed : {V : Type 0} (before : V → V → Bool) (x : V) (ys : List V) → length (placed before x ys) ≡ length ys + 1
 length_placed before x [] = refl

@@ -1,5 +1,7 @@
+pub mod Equality
 pub mod Holding
 pub mod Keeping
+pub mod Lending
 pub mod Minimal
 pub mod Orders
 pub mod Rows

@@ -5,6 +5,7 @@ ghost use Rattle.rows.specs.Keeping.{covered, kept, told};
 use crate::{Full, Ordered, list};
 
 /// Elements of which none is below another, in order, in the front of a slice of the caller's.
+// Not a `Lent` inside: each method would only pass on to it, and the clauses would name one field more.
 #[derive(Drop)]
 pub struct Antichain<'a, T> {
     items: &'a mut [T],
@@ -22,6 +23,7 @@ impl<'a, T: Ordered> Antichain<'a, T> {
     }
 
     /// The first `held` of `items` are held already; all of them where `held` is past the end.
+    // A count beside the slice, since this is public so, as `put` is.
     pub fn holding(items: &'a mut [T], held: usize) -> Self
         ensures listed { listed result ≡ take held items.old }
         ensures same { result.items.now ≡ items.old }
@@ -43,6 +45,15 @@ impl<'a, T: Ordered> Antichain<'a, T> {
         ensures { result.now ≡ listed self.now }
     {
         &self.items[0..self.len()]
+    }
+
+    /// What is held, in order, for as long as the slice is lent.
+    pub fn into_held(self) -> &'a [T]
+        ensures { result.now ≡ listed self.entry }
+    {
+        let count = self.len();
+        let items = self.items;
+        &items[..count]
     }
 
     /// Puts `x` to what is held, as `put` does in a slice.

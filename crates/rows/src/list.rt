@@ -12,12 +12,7 @@ pub struct Full;
 pub fn covers<T: Ordered>(held: &[T], x: &T) -> bool
     ensures { result ≡ covered T.below held.now x.now }
 {
-    for y in held {
-        if y.at_or_below(x) {
-            return true;
-        }
-    }
-    false
+    held.iter().any(|y| y.at_or_below(x))
 }
 
 /// The place of the first of `held` that `x` is at or below, or their number.
@@ -26,12 +21,9 @@ fn first_above<T: Ordered>(held: &[T], x: &T) -> usize
     ensures stay { spared T.below x.now (take result held.now) ≡ take result held.now }
     ensures above { result < length held.now → T.below x.now (slice_index_or held.now result x.now) ≡ true }
 {
-    for (i, y) in held.iter().enumerate() {
-        if x.at_or_below(y) {
-            return i;
-        }
-    }
-    held.len()
+    held.iter()
+        .position(|y| x.at_or_below(y))
+        .unwrap_or(held.len())
 }
 
 /// Moves those of the first `held` that `x` is not at or below to the front, in their order, and says how many they are.
@@ -45,6 +37,7 @@ fn remove_above<T: Ordered>(items: &mut [T], from: usize, held: usize, x: &T) ->
     ensures past { drop held items.new ≡ drop held items.old }
 {
     let mut left = from;
+    // By index: a slice has no `retain`, and there is no heap for a `Vec`.
     for i in from..held {
         if !x.at_or_below(&items[i]) {
             items[left] = items[i];
@@ -59,12 +52,9 @@ fn place<T: Ordered>(held: &[T], x: &T) -> usize
     ensures within { result ≤ length held.now }
     ensures there { placed T.before x.now held.now ≡ insert held.now result x.now }
 {
-    for (i, y) in held.iter().enumerate() {
-        if x.precedes(y) {
-            return i;
-        }
-    }
-    held.len()
+    held.iter()
+        .position(|y| x.precedes(y))
+        .unwrap_or(held.len())
 }
 
 /// Puts `x` at the place `at` of the first `held`, those from there on one place further, and says how many are held then.
@@ -74,9 +64,7 @@ fn insert<T: Copy>(items: &mut [T], held: usize, at: usize, x: T) -> usize
     ensures fits { result ≤ length items.old }
     ensures done { items.new ≡ insert (take held items.old) at x ++ drop (held + 1) items.old }
 {
-    for i in (at..held).rev() {
-        items[i + 1] = items[i];
-    }
+    items.copy_within(at..held, at + 1);
     items[at] = x;
     held + 1
 }
@@ -85,6 +73,7 @@ fn insert<T: Copy>(items: &mut [T], held: usize, at: usize, x: T) -> usize
 /// Where one of them is at or below `x`, nothing changes; otherwise those above `x` go out, and `x` goes in at its place.
 /// Refused where that would be more than `items` has places; then nothing changes.
 /// A `held` past the end counts as the number of places. What the places between the new count and the old hold is left open.
+// A count beside the slice, since this is public so: `Antichain` holds the two together, and its `put` goes by this one.
 pub fn put<T: Ordered>(items: &mut [T], held: usize, x: T) -> Result<usize, Full>
     ensures defined { shown result items.new ≡ kept T.below T.before (length items.old) (take held items.old) x }
     ensures refused { OnErr result (items.new ≡ items.old) }
@@ -109,7 +98,9 @@ pub fn put<T: Ordered>(items: &mut [T], held: usize, x: T) -> Result<usize, Full
 pub fn fill_from<T: Copy>(items: &mut [T], from: usize, x: T)
     ensures { items.new ≡ take from items.old ++ replicate (length items.old - from) x }
 {
-    for i in from..items.len() {
-        items[i] = x;
+    // Not by the slice's `fill`: for any type that is `Copy` a `clone` may fail there.
+    let start = from.min(items.len());
+    for place in &mut items[start..] {
+        *place = x;
     }
 }

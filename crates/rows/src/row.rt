@@ -1,30 +1,13 @@
-ghost use Rattle.std.specs.Prelude.{◌≡◌, true, replicate, Decides, nat_eq, slice_set};
+ghost use Rattle.std.specs.Prelude.{◌≡◌, true, replicate, slice_set};
 ghost use Rattle.rows.specs.Rows.{contains, compatible, union, earlier, SaysBoth};
-ghost use Rattle.std.specs.Cmp.Rules.{comparing};
-ghost use Rattle.std.proofs.Common.{rules};
-ghost use Rattle.std.specs.Cmp.{partial_equiv_from_equiv};
-ghost use Rattle.std.specs.Cmp.Lexicographic.{pointwise};
 
 /// The number of alternatives.
 pub const PLACES: usize = 16;
 
 /// A composite choice: one number for each alternative, 0 where it is untouched, otherwise the choice made there.
-#[derive(Clone, Copy, Debug, Eq)]
+#[derive(Clone, Copy, Debug, PartialEq, Eq, PartialOrd, Ord)]
 pub struct Row {
     pub choices: [u8; PLACES],
-}
-
-impl PartialEq for Row {
-    ghost eq = { λ x y. pointwise nat_eq x.choices y.choices };
-
-    ghost laws = { partial_equiv_from_equiv (Prim.search (comparing, rules)) };
-
-    fn eq(&self, other: &Row) -> bool
-        ensures value { result ≡ pointwise nat_eq self.now.choices other.now.choices }
-        ensures equal { Decides result (self.now ≡ other.now) }
-    {
-        self.choices == other.choices
-    }
 }
 
 impl Row {
@@ -41,6 +24,7 @@ impl Row {
     pub fn with(mut self, place: usize, choice: u8) -> Row
         ensures { result.choices ≡ slice_set self.choices place choice }
     {
+        // Not by `get_mut`: what is written through it into an array does not come out in the proof.
         if place < PLACES {
             self.choices[place] = choice;
         }
@@ -51,28 +35,19 @@ impl Row {
     pub fn contains(&self, other: &Row) -> bool
         ensures { result ≡ contains self.now.choices other.now.choices }
     {
-        for i in 0..PLACES {
-            let mine = self.choices[i];
-            let theirs = other.choices[i];
-            if theirs != 0 && mine != theirs {
-                return false;
-            }
-        }
-        true
+        self.choices
+            .iter()
+            .zip(&other.choices)
+            .all(|(mine, theirs)| *theirs == 0 || mine == theirs)
     }
 
     /// Whether the two rows agree wherever both have a choice.
     pub fn compatible(&self, other: &Row) -> bool
         ensures { result ≡ compatible self.now.choices other.now.choices }
     {
-        for i in 0..PLACES {
-            let mine = self.choices[i];
-            let theirs = other.choices[i];
-            if mine != 0 && theirs != 0 && mine != theirs {
-                return false;
-            }
-        }
-        true
+        self.choices.iter().zip(&other.choices).all(|(mine, theirs)| {
+            *mine == 0 || *theirs == 0 || mine == theirs
+        })
     }
 
     /// The choices of this row, and those of `other` where this one has none.
@@ -82,9 +57,10 @@ impl Row {
         ensures both { compatible self.now.choices other.now.choices ≡ true → SaysBoth result.choices self.now.choices other.now.choices }
     {
         let mut choices = self.choices;
-        for i in 0..PLACES {
-            if choices[i] == 0 {
-                choices[i] = other.choices[i];
+        // By index, since a proof learns nothing of what is written through a zip with `iter_mut`.
+        for (place, theirs) in other.choices.iter().enumerate() {
+            if choices[place] == 0 {
+                choices[place] = *theirs;
             }
         }
         Row { choices }
@@ -94,13 +70,6 @@ impl Row {
     pub fn precedes(&self, other: &Row) -> bool
         ensures { result ≡ earlier self.now.choices other.now.choices }
     {
-        for i in 0..PLACES {
-            let mine = self.choices[i];
-            let theirs = other.choices[i];
-            if mine != theirs {
-                return mine < theirs;
-            }
-        }
-        false
+        self < other
     }
 }

@@ -7,6 +7,7 @@ use crate::{Antichain, Full, Ordered, Row};
 
 /// Puts each of `from`, one after another, to the first `held` of `into`, and says how many are held then.
 /// Refused exactly where one of the puts is.
+// A count beside the slice, since this is public so, as `put` is.
 pub fn put_each<T: Ordered>(from: &[T], into: &mut [T], held: usize) -> Result<usize, Full>
     ensures defined { shown result into.new ≡ kept_all T.below T.before (length into.old) (take held into.old) from.now }
     ensures fits { IfOk result (λ n. n ≤ length into.old) }

@@ -1,4 +1,4 @@
-ghost use Rattle.std.specs.Prelude.{◌&&◌, ◌||◌, length, ◌==◌, nat_le, nat_lt, slice_index};
+ghost use Rattle.std.specs.Prelude.{◌≡◌, Decides, ◌&&◌, ◌||◌, length, ◌==◌, nat_le, nat_lt, slice_index};
 ghost use Rattle.std.proofs.Common.{arith};
 ghost use Rattle.std.proofs.lemmas.Bool.Decides.{nat_tests};
 ghost use Rattle.rows.specs.WordOrderedLemmas.{word_same};
@@ -36,14 +36,15 @@ impl Ordered for Word {
     }
 
     fn precedes(&self, other: &Word) -> bool {
-        if self.letters[0] != other.letters[0] {
-            return self.letters[0] < other.letters[0];
-        }
-        if self.letters[1] != other.letters[1] {
-            return self.letters[1] < other.letters[1];
-        }
-        self.len < other.len
+        (self.letters, self.len) < (other.letters, other.len)
     }
+}
+
+/// `==` tells whether two rows are the same.
+fn same(a: &Row, b: &Row) -> bool
+    ensures { Decides result (a.now ≡ b.now) }
+{
+    a == b
 }
 
 fn row(first: u8, second: u8) -> Row {
@@ -58,6 +59,7 @@ fn rows_are_compared(rt: HostRuntime) {
     assert_eq!(rt; a.union(&b), row(1, 2));
     assert!(rt; b.precedes(&a) && !a.precedes(&a));
     assert_eq!(rt; a.with(16, 3), a);
+    assert!(rt; same(&a, &a) && !same(&a, &b));
 }
 
 #[test]
@@ -103,4 +105,16 @@ fn shortest_words_are_kept(rt: HostRuntime) {
     let mut into = [ab; 2];
     assert!(rt; put_all(&[ba, ab, a], &mut into) == Ok(2));
     assert!(rt; into[0] == a && into[1] == ba);
+}
+
+#[test]
+fn a_lent_list_takes_what_fits(rt: HostRuntime) {
+    let mut places = [9; 4];
+    let mut list = Lent::new(&mut places);
+    assert!(rt; list.push(1) == Ok(()));
+    assert!(rt; list.extend_from_slice(&[2, 3]) == Ok(()));
+    assert!(rt; list.extend_from_slice(&[4, 5]) == Err(Full));
+    assert_eq!(rt; list.as_slice(), [1, 2, 3].as_slice());
+    assert!(rt; list.len() == 3);
+    assert!(rt; places == [1, 2, 3, 9]);
 }

@@ -1,17 +1,10 @@
-use Rattle.std.proofs.Common.{sym, ◌∙◌, arith}
-use Rattle.std.proofs.lemmas.List.{at_drop_more, at_drop_all}
-use Rattle.rows.specs.Keeping.{covered}
+use Rattle.std.proofs.Common.{rules, tests, sym, ◌∙◌}
+use Rattle.std.proofs.lemmas.Iterator.{YieldsList-from_slice}
+use Rattle.std.proofs.lemmas.Iterator.Search.{any_from_yields_List}
+use Rattle.rows.proofs.Chains.{covered_any}
 use Rattle.rows.proofs.list.covers.Goals as goal
 
-pub loop-y-preserved : goal.loop-y-preserved
-loop-y-preserved g c =
-    let step = at_drop_more (λ ys. covered g.T.Ordered.below ys c.args.x.now) c.args.held.now c.loop-y.y-index c.y-item.result c.loop-y-test.true in
-    grind arith
-
-pub returns-then-at_or_below : goal.returns-then-at_or_below
-returns-then-at_or_below g c =
-    let step = at_drop_more (λ ys. covered g.T.Ordered.below ys c.args.x.now) c.args.held.now c.loop-y.y-index c.y-item.result c.loop-y-test.true in
-    grind arith
-
 pub returns : goal.returns
-returns g c = sym (at_drop_all (λ ys. covered g.T.Ordered.below ys c.args.x.now) c.args.held.now c.loop-y.y-index c.loop-y-test.false) ∙ c.loop-y.invariant
+returns g c =
+    any_from_yields_List (λ y. g.T.Ordered.below y c.args.x.now) _ _ c.any.result c.any.ensures.ran (YieldsList-from_slice c.args.held.now c.iter.ensures.rest) (λ x b q k. search (rules, tests))
+    ∙ sym (covered_any g.T.Ordered.below c.args.x.now c.args.held.now)

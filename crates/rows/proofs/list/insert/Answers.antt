@@ -1,16 +1,6 @@
-use Rattle.std.proofs.Common.{◌≡◌, ◌+◌, ◌-◌, refl, arith}
-use Rattle.rows.proofs.Turns.{opened_none, opened_more}
+use Rattle.std.proofs.Common.{set, ap, ◌∙◌}
+use Rattle.rows.proofs.Fills.{opened}
 use Rattle.rows.proofs.list.insert.Goals as goal
 
-pub loop-i-init : goal.loop-i-init
-loop-i-init g c = (omega arith, opened_none c.args.held c.args.items.now (omega arith))
-
-pub loop-i-preserved : goal.loop-i-preserved
-loop-i-preserved g c =
-    let next : c.loop-i.i - 1 + 1 ≡ c.loop-i.i = omega arith in
-    (omega arith, opened_more c.args.held c.args.items.now c.loop-i.items (c.loop-i.i - 1) c.index-items-i.result (omega arith) (omega arith) (λ z. rw next (c.loop-i.invariant.1 z)) c.index-items-i.is)
-
-pub returns : goal.returns
-returns g c =
-    let here : c.args.at ≡ c.loop-i.i = omega arith in
-    record { count = refl; fits = omega arith; done = rw here (c.loop-i.invariant.1 c.args.x) }
+pub returns-clause-done : goal.returns-clause-done
+returns-clause-done g c = ap (λ l. set l c.args.at c.args.x) c.copy_within.ensures.after ∙ opened c.args.x c.args.items.now c.args.held c.args.at c.requires.0 c.requires.1

@@ -1,12 +1,15 @@
-use Rattle.std.proofs.Common.{sym, arith}
-use Rattle.rows.proofs.Turns.{placed_more, placed_here, placed_last}
+use Rattle.std.proofs.Common.{rules, tests, ◌≡◌, ◌∙◌}
+use Rattle.std.specs.List.{position_or_len}
+use Rattle.std.proofs.lemmas.Iterator.{YieldsList-from_slice}
+use Rattle.std.proofs.lemmas.Iterator.Search.{position_from_yields_List}
+use Rattle.rows.proofs.Chains.{position_found, placed_first}
 use Rattle.rows.proofs.list.place.Goals as goal
 
-pub returns-then-precedes : goal.returns-then-precedes
-returns-then-precedes g c = record { within = omega arith; there = placed_here g.T.Ordered.before c.args.x.now c.args.held.now c.loop-i.i c.loop-i.invariant c.index-held-i.result (omega arith) c.index-held-i.is (sym c.if-precedes.ensures) }
-
-pub loop-i-preserved : goal.loop-i-preserved
-loop-i-preserved g c = placed_more g.T.Ordered.before c.args.x.now c.args.held.now c.loop-i.i c.loop-i.invariant c.index-held-i.result (omega arith) c.index-held-i.is (sym c.if-precedes.ensures)
-
-pub returns : goal.returns
-returns g c = record { within = omega arith; there = placed_last g.T.Ordered.before c.args.x.now c.args.held.now c.loop-i.i c.loop-i.invariant (omega arith) }
+pub returns-clause-there : goal.returns-clause-there
+returns-clause-there g c =
+    let before = g.T.Ordered.before in
+    let x = c.args.x.now in
+    let held = c.args.held.now in
+    let found = position_from_yields_List (before x) _ _ c.position.result c.position.ensures.ran (YieldsList-from_slice held c.iter.ensures.rest) (λ y b q k. search (rules, tests)) in
+    let is : c.unwrap_or.result ≡ position_or_len (before x) held = c.unwrap_or.ensures ∙ position_found (before x) held c.position.result found in
+    rw is (placed_first before x held)

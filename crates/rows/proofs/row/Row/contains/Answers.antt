@@ -1,20 +1,12 @@
-use Rattle.std.proofs.Common.{arith, rules}
-use Rattle.std.proofs.lemmas.Bool.Decides.{nat_tests}
-use Rattle.rows.specs.Rows.{contains}
-use Rattle.rows.proofs.Pairs.{pair_more, pair_all}
+use Rattle.std.proofs.Common.{rules, tests, eqb, ◌||◌, sym, ◌∙◌}
+use Rattle.std.proofs.lemmas.Iterator.{YieldsList-from_slice, YieldsList-from_zip}
+use Rattle.std.proofs.lemmas.Iterator.Search.{all_from_yields_List}
+use Rattle.rows.proofs.Chains.{contains_all}
 use Rattle.rows.proofs.row.Row.contains.Goals as goal
-
-pub loop-i-preserved : goal.loop-i-preserved
-loop-i-preserved c =
-    let step = pair_more contains c.args.self.now.choices c.args.other.now.choices c.loop-i.i 0 (search rules) (search rules) in
-    grind (arith, nat_tests)
-
-pub returns-then-mine-theirs : goal.returns-then-mine-theirs
-returns-then-mine-theirs c =
-    let step = pair_more contains c.args.self.now.choices c.args.other.now.choices c.loop-i.i 0 (search rules) (search rules) in
-    grind (arith, nat_tests)
 
 pub returns : goal.returns
 returns c =
-    let end = pair_all contains c.args.self.now.choices c.args.other.now.choices c.loop-i.i (search rules) (search rules) in
-    cc
+    let mine = c.args.self.now.choices in
+    let theirs = c.args.other.now.choices in
+    all_from_yields_List (λ p. eqb p.1 0 || eqb p.0 p.1) c.all.new.self _ c.all.result c.all.ensures.ran (YieldsList-from_zip {s = c.zip.result} (YieldsList-from_slice mine (search rules)) (YieldsList-from_slice theirs (search rules))) (λ x b q k. search (rules, tests))
+    ∙ sym (contains_all mine theirs (search rules))
