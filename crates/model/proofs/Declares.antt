@@ -22,12 +22,6 @@ module _ (weights : List ℕ) (fit : length weights ≤ 8) where
       let past : zeros (drop (length weights) (weights ++ replicate (8 - length weights) 0)) ≡ true = ap zeros (drop_at weights (replicate (8 - length weights) 0) (length weights) refl) ∙ zeros_all (8 - length weights) in
       and_from _ _ (eq-eqb _ 8 long) (and_from _ _ (le-leb 2 _ some) (and_from _ _ (le-leb _ 8 fit) past))
 
--- weights that were copied to the front of an empty table
-pub alternative_copied : (weights front : List ℕ) (k : ℕ) → front ≡ weights → k ≡ length weights → ◌≡◌ {A = Alternative} (record { choices = length weights; weights = front ++ drop k (replicate 8 0) }) (alternative_of weights)
-alternative_copied weights front k same count =
-    let all : front ++ drop k (replicate 8 0) ≡ weights ++ replicate (8 - length weights) 0 = rw (same, count) (ap (λ ns. weights ++ ns) (drop-replicate (length weights) 8 0)) in
-    λ i. record { choices = length weights; weights = all i }
-
 canonical_push : (as' : List Alternative) (a : Alternative) → canonical_alternatives as' ≡ true → canonical_alternative a ≡ true → canonical_alternatives (as' ++ (a ∷ [])) ≡ true
 canonical_push [] a h k = and_from _ _ k refl
 canonical_push (b ∷ as') a h k = let both = and_parts _ _ h in and_from _ _ both.0 (canonical_push as' a both.1 k)

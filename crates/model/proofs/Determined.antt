@@ -7,6 +7,7 @@ use Rattle.rows.proofs.Kept.{ascending_same}
 use Rattle.rows.proofs.Members.{all_among}
 use Rattle.model.specs.declared.alternative.Alternative.{Alternative}
 use Rattle.model.specs.declared.model.Model.{Model}
+use Rattle.model.specs.declared.suppositions.Suppositions.{Suppositions}
 use Rattle.model.specs.Alternatives.{weights_of, alternative_of, blank_alternative, zeros, canonical_alternative, canonical_alternatives}
 use Rattle.model.specs.Holding.{sizes_of}
 use Rattle.model.specs.Meaning.{Determined}
@@ -16,7 +17,6 @@ use Rattle.model.proofs.Declares.{alternatives_count}
 use Rattle.model.specs.Laws.{rule_orders}
 use Rattle.model.specs.Same.{model_same}
 use Rattle.model.proofs.States.{sound_valid}
-use Rattle.model.proofs.Supposes.{suppositions_same}
 use Rattle.model.proofs.Tables.{weights_count}
 
 zeros_are : (ns : List ℕ) → zeros ns ≡ true → ns ≡ replicate (length ns) 0
@@ -71,6 +71,9 @@ held_same m n p q =
     (table_is m ∙ ap (λ as'. map alternative_of as' ++ replicate (16 - length as') blank_alternative) p ∙ sym (table_is n))
     (held_is m ∙ ap length q ∙ sym (held_is n))
     (shelf_is m ∙ ap (λ rs. rs ++ replicate (128 - length rs) blank_rule) q ∙ sym (shelf_is n))
+
+suppositions_same : (s t : Suppositions) → s.choices ≡ t.choices → s ≡ t
+suppositions_same s t e = ap (λ (cs : List ℕ). let u : Suppositions = record { choices = cs } in u) e
 
 pub determined : Determined
 determined j m n s t g h =

@@ -1,5 +1,5 @@
 -- What each call keeps between a journal and a session.
-use Rattle.std.proofs.Common.{◌≡◌, ℕ, zero, suc, ◌+◌, ◌-◌, true, false, List, [], ◌∷◌, ◌++◌, map, length, get_or, set, replicate, is_ok, IfErr, Some, None, Ok, Err, Option, Result, sym, refl, ap, ◌∙◌, subst, inl, inr, arith, length-set}
+use Rattle.std.proofs.Common.{◌≡◌, ℕ, zero, suc, ◌+◌, ◌-◌, false, List, [], ◌∷◌, ◌++◌, map, length, get_or, set, replicate, is_ok, IfErr, Some, None, Ok, Err, Option, Result, sym, refl, ap, ◌∙◌, subst, inl, inr, arith, length-set}
 use Rattle.std.specs.List.{AllByRecursion}
 use Rattle.std.proofs.ByRecursion.{All-push, All-weaker}
 use Rattle.std.proofs.lemmas.List.{map_push, map-set, set-get_or}
@@ -13,12 +13,11 @@ use Rattle.model.specs.declared.model.Model.{Model}
 use Rattle.model.specs.declared.refusal.Refusal.{Refusal}
 use Rattle.model.specs.declared.rule.Rule.{Rule}
 use Rattle.model.specs.declared.suppositions.Suppositions.{Suppositions}
-use Rattle.model.specs.Journal.{Stated, Journal, Call, declares, weighs, states, supposes, feed, as_rule, Taken, Agrees, fresh}
+use Rattle.model.specs.Journal.{Stated, Journal, Call, declares, weighs, states, feed, as_rule, Taken, Agrees, fresh}
 use Rattle.model.specs.Judging.{judge_head, judge_length, judge_literal, judge_from, judge_rule}
 use Rattle.model.specs.Models.{alternatives, rules, sizes, declaring, reweighing, weighing, put_answer, judged, stating, outcome}
 use Rattle.model.specs.Refusals.{smaller}
 use Rattle.model.specs.Rules.{rule_below, rule_before, canonical, rule_of}
-use Rattle.model.specs.Supposed.{supposing}
 use Rattle.model.specs.Laws.{rule_orders}
 use Rattle.model.proofs.Sizes.{Wider, one_wider, judge_wider}
 use Rattle.model.proofs.States.{Free, judged_free, rule_canonical}
@@ -130,12 +129,4 @@ agrees_fresh m s none no-alternative no_rule = record {
   taken = tt;
   held = subst (Minimals rule_below rule_before []) (sym no_rule) (record { members = λ e. (λ k. absurd k, λ k. k.0); once = tt; ascending = tt });
   supposed = none;
-}
-
-pub agrees_supposes : (j : Journal) (m : Model) (s t : Suppositions) → Agrees j m s → (a c : ℕ) → t.choices ≡ supposing (alternatives m) s.choices a c → Agrees (feed j (supposes a c) true) m t
-agrees_supposes j m s t g a c is = record {
-  declared = g.declared;
-  taken = g.taken;
-  held = g.held;
-  supposed = is ∙ ap (λ as'. supposing as' s.choices a c) g.declared ∙ ap (λ ns. supposing j.declared ns a c) g.supposed;
 }

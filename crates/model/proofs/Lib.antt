@@ -6,5 +6,4 @@ pub mod Meanings
 pub mod Sizes
 pub mod Soundness
 pub mod States
-pub mod Supposes
 pub mod Tables

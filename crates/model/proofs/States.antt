@@ -1,5 +1,5 @@
 -- One rule more among those that a model holds.
-use Rattle.std.proofs.Common.{◌≡◌, ℕ, zero, suc, ◌+◌, ◌-◌, ◌≤◌, Bool, true, false, cond, not, ltb, List, [], ◌∷◌, ◌++◌, length, replicate, is_some, Some, None, Option, sym, refl, ap, ◌∙◌, subst, inl, inr, ⊎_elim, arith}
+use Rattle.std.proofs.Common.{◌≡◌, ℕ, zero, suc, ◌+◌, ◌-◌, ◌≤◌, Bool, true, false, cond, not, ltb, List, [], ◌∷◌, ◌++◌, length, replicate, is_some, Some, None, Ok, Option, Result, sym, refl, ap, ◌∙◌, subst, inl, inr, ⊎_elim, arith}
 use Rattle.std.proofs.lemmas.List.{take_at, drop_at, length-append, length-replicate}
 use Rattle.std.proofs.lemmas.Bool.{and_parts, and_from, le-leb, eq-eqb}
 use Rattle.std.proofs.lemmas.Bool.Decides.{nat_tests}
@@ -28,6 +28,11 @@ smaller_none (Some a) (Some b) h = go (ltb (number b) (number a)) h
     go : (t : Bool) → cond t (Some b) (Some a) ≡ None → (Some a ≡ None) × (Some b ≡ None)
     go true k = let z : ◌≡◌ {A = ℕ} 0 1 = cc in absurd (omega arith)
     go false k = let z : ◌≡◌ {A = ℕ} 0 1 = cc in absurd (omega arith)
+
+-- nor is a call accepted that meets one
+pub judged_ok : {X : Type 0} (o : Option Refusal) (r : Result X Refusal) (x : X) → Ok x ≡ judged o r → o ≡ None
+judged_ok None r x h = refl
+judged_ok (Some f) r x h = let z : ◌≡◌ {A = ℕ} 0 1 = cc in absurd (omega arith)
 
 -- at any place a literal is refused alike
 free_anywhere : (sizes : List ℕ) (head at : ℕ) (l : Literal) → judge_literal sizes head at l ≡ None → judge_literal sizes head 0 l ≡ None
@@ -143,8 +148,8 @@ module _ (sizes : List ℕ) (rs : List Rule) (x : Rule) (zs : List Rule) (sound 
       ap listing (minimals_settled rule_orders 128 (rs ++ (x ∷ [])) zs both all (kept_fits rule_below rule_before 128 rs x zs room put))
 
 -- the answer, where no literal is refused
-pub stating_put : (as' : List (List ℕ)) (rs : List Rule) (head : ℕ) (body : List Literal) (limit : ℕ) (rule : Rule) (o : Option (List Rule)) → judge_rule (sizes as') head body ≡ None
-    → limit ≡ 128 → rule ≡ rule_of head body → o ≡ kept rule_below rule_before limit rs rule → put_answer o ≡ stating as' rs head body
-stating_put as' rs head body limit rule o free full is put =
-    ap put_answer (put ∙ ap (λ n. kept rule_below rule_before n rs rule) full ∙ ap (kept rule_below rule_before 128 rs) is)
+pub stating_put : (as' : List (List ℕ)) (rs : List Rule) (head : ℕ) (body : List Literal) (rule : Rule) (o : Option (List Rule)) → judge_rule (sizes as') head body ≡ None
+    → rule ≡ rule_of head body → o ≡ kept rule_below rule_before 128 rs rule → put_answer o ≡ stating as' rs head body
+stating_put as' rs head body rule o free is put =
+    ap put_answer (put ∙ ap (kept rule_below rule_before 128 rs) is)
     ∙ sym (ap (λ j. judged j (put_answer (kept rule_below rule_before 128 rs (rule_of head body)))) free)

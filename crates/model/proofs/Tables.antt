@@ -1,12 +1,14 @@
 -- The table of a model's alternatives, read and written at one place.
-use Rattle.std.proofs.Common.{◌≡◌, ℕ, zero, suc, ◌-◌, ◌<◌, ◌≤◌, true, List, [], ◌∷◌, map, length, get_or, take, set, sym, refl, ap, ◌∙◌, arith}
-use Rattle.std.proofs.lemmas.List.{length-set, length-map, length-take-le, get_or-map, get_or-take, map-set, set-get_or, drop-set-lt}
-use Rattle.std.proofs.lemmas.Bool.{and_parts, and_from}
+use Rattle.std.proofs.Common.{◌≡◌, ℕ, zero, suc, ◌-◌, ◌<◌, ◌≤◌, ◌+◌, true, ◌&&◌, ◌||◌, eqb, List, [], ◌∷◌, map, length, get_or, take, drop, set, replicate, Some, None, Option, Bor, MatchOption, ⊎_elim, sym, refl, ap, ◌∙◌, arith}
+use Rattle.std.specs.List.{list_all, range_with_len, zip}
+use Rattle.std.specs.Slice.{IsItemAt}
+use Rattle.std.proofs.lemmas.List.{length-set, length-map, length-take-le, get_or-map, get_or-take, get_or-drop, get_or_past, map-set, set-get_or, drop-set-lt}
+use Rattle.std.proofs.lemmas.Bool.{and_parts, and_from, cases_lt}
 use Rattle.std.proofs.lemmas.Bool.Decides.{nat_tests}
 use Rattle.model.specs.declared.alternative.Alternative.{Alternative}
-use Rattle.model.specs.Alternatives.{weights_of, zeros, canonical_alternative, canonical_alternatives}
+use Rattle.model.specs.Alternatives.{weights_of, blank_alternative, zeros, canonical_alternative, canonical_alternatives}
 use Rattle.model.specs.Holding.{sizes_of}
-use Rattle.model.specs.Judging.{is_declared}
+use Rattle.model.specs.Judging.{is_declared, all_declared}
 use Rattle.model.specs.Models.{sizes}
 
 -- what stands past the end of a table
@@ -19,6 +21,16 @@ weights_count a h =
     let long : length a.weights ≡ 8 = grind (arith, nat_tests) in
     let fit : a.choices ≤ 8 = grind (arith, nat_tests) in
     length-take-le a.choices a.weights (omega arith)
+
+blank_choices : (n i : ℕ) → (get_or (replicate n blank_alternative) i nowhere).choices ≡ 0
+blank_choices zero i = refl
+blank_choices (suc n) zero = refl
+blank_choices (suc n) (suc i) = blank_choices n i
+
+-- how many choices a look at a table finds
+pub choices_found : (table : List Alternative) (i r : ℕ) (o : Option (Bor Alternative)) → IsItemAt table i o → MatchOption o (r ≡ 0) (λ a. r ≡ a.now.choices) → r ≡ (get_or table i nowhere).choices
+choices_found table i r None is h = h ∙ ap (λ (a : Alternative). a.choices) (is.4 (omega arith) nowhere)
+choices_found table i r (Some a) is h = h ∙ ap (λ (a : Alternative). a.choices) (is.4 (omega arith) nowhere)
 
 pub sizes_same : (as' : List Alternative) → canonical_alternatives as' ≡ true → sizes (map weights_of as') ≡ sizes_of as'
 sizes_same [] h = refl
@@ -49,6 +61,22 @@ module _ (table : List Alternative) (n : ℕ) (long : length table ≡ 16) (few 
   pub whole_at : (i : ℕ) → i < n → canonical_alternative (get_or table i nowhere) ≡ true
   whole_at i h = ap canonical_alternative (sym (get_or-take n table i nowhere h)) ∙ canonical_at (take n table) i whole (omega (arith, count))
 
+  -- past those there are no choices
+  none_past : drop n table ≡ replicate (16 - n) blank_alternative → (i : ℕ) → n ≤ i → (get_or table i nowhere).choices ≡ 0
+  none_past unused i h =
+      let here = ap (λ k. get_or table k nowhere) (omega arith) ∙ sym (get_or-drop n table (i - n) nowhere) ∙ ap (λ as'. get_or as' (i - n) nowhere) unused in
+      ap (λ (a : Alternative). a.choices) here ∙ blank_choices (16 - n) (i - n)
+
+  pub choices_at : drop n table ≡ replicate (16 - n) blank_alternative → (i : ℕ) → (get_or table i nowhere).choices ≡ get_or (sizes (map weights_of (take n table))) i 0
+  choices_at unused i =
+      ⊎_elim
+      (λ h. sym (sizes_at i h))
+      (λ h. none_past unused i h ∙ sym (get_or_past _ i 0 (omega (arith, sizes_count))))
+      (cases_lt i n)
+
+  pub few_at : drop n table ≡ replicate (16 - n) blank_alternative → (i : ℕ) → (get_or table i nowhere).choices ≤ 8
+  few_at unused i = ⊎_elim (λ h. let whole = whole_at i h in grind (arith, nat_tests)) (λ h. omega (arith, none_past unused i h)) (cases_lt i n)
+
   -- where a choice is declared
   pub declared_place : (a c : ℕ) → is_declared (sizes (map weights_of (take n table))) a c ≡ true → (1 ≤ a) × (a - 1 < n) × (1 ≤ c) × (c - 1 < (get_or table (a - 1) nowhere).choices)
   declared_place a c h =
@@ -68,6 +96,11 @@ canonical_set : (as' : List Alternative) (i : ℕ) (a : Alternative) → canonic
 canonical_set [] i a h k = refl
 canonical_set (b ∷ as') zero a h k = and_from _ _ k (and_parts _ _ h).1
 canonical_set (b ∷ as') (suc i) a h k = and_from _ _ (and_parts _ _ h).0 (canonical_set as' i a (and_parts _ _ h).1 k)
+
+-- whether each of some choices is declared at its alternative, or 0
+pub each_declared : (ns : List ℕ) (a : ℕ) (choices : List ℕ) → list_all (λ p. eqb p.0 0 || is_declared ns p.1 p.0) (zip choices (range_with_len a (length choices))) ≡ all_declared ns a choices
+each_declared ns a [] = refl
+each_declared ns a (c ∷ choices) = ap (λ b. (eqb c 0 || is_declared ns a c) && b) (each_declared ns (a + 1) choices)
 
 -- an alternative with another weight at one of its choices
 module _ (a : Alternative) (k w : ℕ) (whole : canonical_alternative a ≡ true) (inside : k < a.choices) where

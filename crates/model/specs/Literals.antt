@@ -1,7 +1,17 @@
 -- Literals as given, and how they are ordered.
-use Rattle.std.specs.Prelude.{ℕ, Bool, ◌&&◌, List, [], ◌∷◌, ◌==◌}
+use Rattle.std.specs.Prelude.{ℕ, Bool, cond, ◌&&◌, List, [], ◌∷◌, Some, None, Option, ◌==◌}
 use Rattle.rows.specs.Rows.{earlier}
+use Rattle.model.specs.declared.literal.Kind.{Kind}
+use Rattle.model.specs.declared.literal.Kind.TheVariants.{Atom, NotAtom, Choice, NotChoice}
 use Rattle.model.specs.declared.literal.Literal.{Literal}
+
+-- the kind that a number names
+abbrev pub kind_of : ℕ → Option Kind
+kind_of kind =
+    cond (kind == 0) (Some Atom)
+    (cond (kind == 1) (Some NotAtom)
+    (cond (kind == 2) (Some Choice)
+    (cond (kind == 3) (Some NotChoice) None)))
 
 -- the three numbers of a literal
 abbrev pub numbers : Literal → List ℕ

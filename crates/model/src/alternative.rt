@@ -5,7 +5,8 @@ ghost use Rattle.model.specs.Alternatives.{weights_of, alternative_of};
 pub(crate) const CHOICES: usize = 8;
 
 /// An alternative: how many choices it has, and the raw weight of each. The places past the last choice hold 0.
-#[derive(Clone, Copy)]
+// An array with a count: there is no heap, and equal alternatives are to be equal values to the last place.
+#[derive(Clone, Copy, PartialEq, Eq)]
 pub struct Alternative {
     pub(crate) choices: u8,
     pub(crate) weights: [u32; CHOICES],
@@ -24,7 +25,7 @@ impl Alternative {
         ensures { result ≡ alternative_of weights.now }
     {
         let mut table = [0; CHOICES];
-        table[0..weights.len()].copy_from_slice(weights);
+        table[..weights.len()].copy_from_slice(weights);
         Alternative {
             choices: weights.len() as u8,
             weights: table,
@@ -35,6 +36,7 @@ impl Alternative {
     pub fn weights(&self) -> &[u32]
         ensures { result.now ≡ weights_of self.now }
     {
-        &self.weights[0..(self.choices as usize).min(CHOICES)]
+        // No invariant says that the count is at most 8: the clauses speak of an alternative of any list of weights.
+        &self.weights[..(self.choices as usize).min(CHOICES)]
     }
 }

@@ -6,7 +6,6 @@ ghost use Rattle.model.specs.Models.{alternatives, rules, sizes, declaring, weig
 
 use crate::alternative::CHOICES;
 use crate::model::{ALTERNATIVES, RULES};
-use crate::put::put_rule;
 use crate::{Alternative, Literal, Model, Refusal, Rule, Suppositions};
 
 impl Model {
@@ -30,15 +29,14 @@ impl Model {
         ensures refused { OnErr result (self.new ≡ self.old) }
         ensures journal { (j : Journal) (s : Suppositions) → Agrees j self.old s → Agrees (feed j (declares weights.now) (is_ok result)) self.new s }
     {
-        if weights.len() < 2 || weights.len() > CHOICES {
+        if !(2..=CHOICES).contains(&weights.len()) {
             return Err(Refusal::NumberOfChoices);
         }
-        let at = self.declared;
-        if at == ALTERNATIVES {
+        if self.declared == ALTERNATIVES {
             return Err(Refusal::NumberOfAlternatives);
         }
-        self.alternatives[at] = Alternative::new(weights);
-        self.declared = at + 1;
+        self.alternatives[self.declared] = Alternative::new(weights);
+        self.declared += 1;
         Ok(())
     }
 
@@ -46,11 +44,7 @@ impl Model {
     pub fn is_declared(&self, alternative: u8, choice: u8) -> bool
         ensures { result ≡ is_declared (sizes (alternatives self.now)) alternative choice }
     {
-        if alternative < 1 || alternative as usize > self.declared {
-            return false;
-        }
-        let at = alternative as usize - 1;
-        choice >= 1 && choice <= self.alternatives[at].choices
+        alternative >= 1 && (1..=self.choices_at(alternative as usize - 1)).contains(&choice)
     }
 
     /// How many choices the alternative at a place has, counted from 0; none where nothing is declared there.
@@ -58,11 +52,8 @@ impl Model {
         ensures count { result ≡ slice_index (sizes (alternatives self.now)) place }
         ensures few { result ≤ 8 }
     {
-        if place < self.declared {
-            self.alternatives[place].choices
-        } else {
-            0
-        }
+        // The places past the declared ones are blank, with no choices.
+        self.alternatives.get(place).map_or(0, |a| a.choices)
     }
 
     /// Sets the raw weight of one choice.
@@ -75,10 +66,7 @@ impl Model {
         if !self.is_declared(alternative, choice) {
             return Err(Refusal::NotDeclared { place: 0 });
         }
-        let at = alternative as usize - 1;
-        let mut changed = self.alternatives[at];
-        changed.weights[choice as usize - 1] = weight;
-        self.alternatives[at] = changed;
+        self.alternatives[alternative as usize - 1].weights[choice as usize - 1] = weight;
         Ok(())
     }
 
@@ -90,31 +78,25 @@ impl Model {
         ensures refused { OnErr result (self.new ≡ self.old) }
         ensures journal { (j : Journal) (s : Suppositions) → Agrees j self.old s → Agrees (feed j (states head body.now) (is_ok result)) self.new s }
     {
-        if let Some(refusal) = self.judge(head, body) {
-            return Err(refusal);
-        }
+        self.judge(head, body)?;
         let rule = Rule::new(head, body);
-        let held = self.held;
-        match put_rule(&mut self.rules, held, rule) {
-            Ok(left) => {
-                self.held = left;
-                Ok(())
-            }
-            Err(_) => Err(Refusal::NumberOfRules),
-        }
+        let held = rows::put(&mut self.rules, self.held, rule).map_err(|_| Refusal::NumberOfRules)?;
+        self.rules[held..].fill(Rule::BLANK);
+        self.held = held;
+        Ok(())
     }
 
     /// The alternatives, in the order of declaration.
     pub fn alternatives(&self) -> &[Alternative]
         ensures { map weights_of result.now ≡ alternatives self.now }
     {
-        &self.alternatives[0..self.declared]
+        &self.alternatives[..self.declared]
     }
 
     /// The rules that are held, in order.
     pub fn rules(&self) -> &[Rule]
         ensures { result.now ≡ rules self.now }
     {
-        &self.rules[0..self.held]
+        &self.rules[..self.held]
     }
 }

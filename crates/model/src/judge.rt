@@ -1,11 +1,11 @@
 ghost use Rattle.std.specs.Prelude.{◌≡◌, Ok};
-ghost use Rattle.model.specs.Judging.{is_atom, judge_head, judge_length, judge_literal, judge_rule, all_declared, judge_question};
+ghost use Rattle.model.specs.Judging.{is_atom, judge_atom, judge_head, judge_length, judge_literal, judge_rule, all_declared, judge_question};
 ghost use Rattle.model.specs.Models.{alternatives, sizes, judged};
 ghost use Rattle.model.specs.Refusals.{smaller};
 
 use crate::model::ALTERNATIVES;
 use crate::rule::LITERALS;
-use crate::{Literal, Model, Refusal, Suppositions};
+use crate::{Kind, Literal, Model, Refusal, Suppositions};
 
 /// The highest atom.
 const ATOMS: u8 = 24;
@@ -14,44 +14,50 @@ const ATOMS: u8 = 24;
 pub(crate) fn is_atom(number: u8) -> bool
     ensures { result ≡ is_atom number }
 {
-    number >= 1 && number <= ATOMS
+    (1..=ATOMS).contains(&number)
 }
 
 /// The refusal with the smaller number, and of two with the same number the first.
 fn smaller(first: Option<Refusal>, second: Option<Refusal>) -> Option<Refusal>
     ensures { result ≡ smaller first second }
 {
-    let Some(a) = first else {
-        return second;
-    };
-    let Some(b) = second else {
-        return first;
-    };
-    if b.number() < a.number() {
-        second
-    } else {
-        first
+    match (first, second) {
+        (Some(a), Some(b)) if b.number() < a.number() => second,
+        (Some(_), _) => first,
+        (None, _) => second,
     }
+}
+
+/// The answer to a call that meets this refusal, or none.
+fn answer(found: Option<Refusal>) -> Result<(), Refusal>
+    ensures { result ≡ judged found (Ok tt) }
+{
+    found.map_or(Ok(()), Err)
 }
 
 fn judge_head(head: u8) -> Option<Refusal>
     ensures { result ≡ judge_head head }
 {
-    if is_atom(head) {
-        None
-    } else {
-        Some(Refusal::NoAtom { place: 0 })
-    }
+    (!is_atom(head)).then_some(Refusal::NoAtom { place: 0 })
 }
 
 fn judge_length(body: &[Literal]) -> Option<Refusal>
     ensures { result ≡ judge_length body.now }
 {
-    if body.len() <= LITERALS {
-        None
-    } else {
-        Some(Refusal::NumberOfLiterals)
+    (body.len() > LITERALS).then_some(Refusal::NumberOfLiterals)
+}
+
+/// The smallest refusal that an atom and the byte beside it meet in the body of a rule with this head.
+fn judge_atom(head: u8, place: usize, atom: u8, second: u8) -> Option<Refusal>
+    ensures { result ≡ judge_atom head place atom second }
+{
+    if !is_atom(atom) {
+        return Some(Refusal::NoAtom { place });
     }
+    if second != 0 {
+        return Some(Refusal::NoLiteral { place });
+    }
+    (atom >= head).then_some(Refusal::NotLower { place })
 }
 
 impl Model {
@@ -59,52 +65,40 @@ impl Model {
     pub(crate) fn judge_literal(&self, head: u8, place: usize, literal: &Literal) -> Option<Refusal>
         ensures { result ≡ judge_literal (sizes (alternatives self.now)) head place literal.now }
     {
-        if literal.kind > 3 {
-            return Some(Refusal::NoLiteral { place });
-        }
-        if literal.kind > 1 {
-            if self.is_declared(literal.first, literal.second) {
-                return None;
+        let Literal { first, second, .. } = *literal;
+        match literal.kind() {
+            None => Some(Refusal::NoLiteral { place }),
+            Some(Kind::Choice | Kind::NotChoice) => {
+                (!self.is_declared(first, second)).then_some(Refusal::NotDeclared { place })
             }
-            return Some(Refusal::NotDeclared { place });
+            Some(Kind::Atom | Kind::NotAtom) => judge_atom(head, place, first, second),
         }
-        if !is_atom(literal.first) {
-            return Some(Refusal::NoAtom { place });
-        }
-        if literal.second != 0 {
-            return Some(Refusal::NoLiteral { place });
-        }
-        if literal.first >= head {
-            return Some(Refusal::NotLower { place });
-        }
-        None
     }
 
     /// The smallest refusal that a rule meets, before it is put to the others.
-    pub(crate) fn judge(&self, head: u8, body: &[Literal]) -> Option<Refusal>
-        ensures { result ≡ judge_rule (sizes (alternatives self.now)) head body.now }
+    pub(crate) fn judge(&self, head: u8, body: &[Literal]) -> Result<(), Refusal>
+        ensures { result ≡ judged (judge_rule (sizes (alternatives self.now)) head body.now) (Ok tt) }
     {
-        let mut found = smaller(judge_head(head), judge_length(body));
-        for (i, literal) in body.iter().enumerate() {
-            found = smaller(found, self.judge_literal(head, i + 1, literal));
-        }
-        found
+        let first = smaller(judge_head(head), judge_length(body));
+        let found = body.iter().enumerate().fold(first, |found, (i, literal)| {
+            smaller(found, self.judge_literal(head, i + 1, literal))
+        });
+        answer(found)
     }
 
     /// Whether every choice that is supposed is declared in this model.
     fn are_declared(&self, suppositions: &Suppositions) -> bool
         ensures { result ≡ all_declared (sizes (alternatives self.now)) 1 suppositions.now.choices }
     {
-        for i in 0..ALTERNATIVES {
-            let choice = suppositions.choices[i];
-            if choice != 0 && !self.is_declared(i as u8 + 1, choice) {
-                return false;
-            }
-        }
-        true
+        suppositions
+            .choices
+            .iter()
+            .zip(1..ALTERNATIVES as u8 + 1)
+            .all(|(choice, alternative)| *choice == 0 || self.is_declared(alternative, *choice))
     }
 
     /// The smallest refusal that a question meets before it is worked. `enough` says whether the space lent to it suffices.
+    // A flag: the parameters are public, and which lengths suffice is the question's to say.
     pub fn judge_question(
         &self,
         suppositions: &Suppositions,
@@ -113,21 +107,10 @@ impl Model {
     ) -> Result<(), Refusal>
         ensures { result ≡ judged (judge_question (sizes (alternatives self.now)) suppositions.now.choices goal.now enough) (Ok tt) }
     {
-        let space = if enough {
-            None
-        } else {
-            Some(Refusal::ShortSpace)
-        };
-        let foreign = if self.are_declared(suppositions) {
-            None
-        } else {
-            Some(Refusal::ForeignSupposition)
-        };
+        let space = (!enough).then_some(Refusal::ShortSpace);
+        let foreign = (!self.are_declared(suppositions)).then_some(Refusal::ForeignSupposition);
         // As a literal of a rule whose head is above all atoms.
         let goal = self.judge_literal(ATOMS + 1, 0, goal);
-        match smaller(goal, smaller(space, foreign)) {
-            Some(refusal) => Err(refusal),
-            None => Ok(()),
-        }
+        answer(smaller(goal, smaller(space, foreign)))
     }
 }

@@ -1,32 +1,24 @@
-ghost use Rattle.std.specs.Prelude.{◌≡◌, Bool, true, Decides};
-ghost use Rattle.model.specs.Literals.{alike, sooner};
-ghost use Rattle.std.specs.Cmp.Rules.{comparing};
-ghost use Rattle.std.proofs.Common.{rules};
-ghost use Rattle.std.specs.Cmp.{partial_equiv_from_equiv};
-ghost use Rattle.model.specs.Equality.{equal_literals};
+ghost use Rattle.std.specs.Prelude.{◌≡◌, Bool, true};
+ghost use Rattle.model.specs.Literals.{alike, sooner, kind_of};
 ghost use Rattle.model.specs.Laws.{literal_orders};
 
 use rows::Ordered;
 
 /// A literal as it is given: its kind, and its first and second number. Any three bytes can be given.
-#[derive(Clone, Copy, Debug, Eq)]
+#[derive(Clone, Copy, Debug, PartialEq, Eq, PartialOrd, Ord)]
 pub struct Literal {
     pub kind: u8,
     pub first: u8,
     pub second: u8,
 }
 
-impl PartialEq for Literal {
-    ghost eq = { equal_literals };
-
-    ghost laws = { partial_equiv_from_equiv (Prim.search (comparing, rules)) };
-
-    fn eq(&self, other: &Literal) -> bool
-        ensures value { result ≡ equal_literals self.now other.now }
-        ensures equal { Decides result (self.now ≡ other.now) }
-    {
-        self.kind == other.kind && self.first == other.first && self.second == other.second
-    }
+/// What a literal says of its two numbers: that an atom is true, that it is not, that a choice is made, or that it is not.
+#[derive(Clone, Copy, Debug, PartialEq, Eq)]
+pub enum Kind {
+    Atom,
+    NotAtom,
+    Choice,
+    NotChoice,
 }
 
 impl Literal {
@@ -36,6 +28,19 @@ impl Literal {
         first: 0,
         second: 0,
     };
+
+    /// The kind that the first of the three bytes names; none where it is over 3.
+    pub fn kind(&self) -> Option<Kind>
+        ensures { result ≡ kind_of self.now.kind }
+    {
+        match self.kind {
+            0 => Some(Kind::Atom),
+            1 => Some(Kind::NotAtom),
+            2 => Some(Kind::Choice),
+            3 => Some(Kind::NotChoice),
+            _ => None,
+        }
+    }
 }
 
 /// A literal is at or below itself alone. They stand by kind, then first, then second.
@@ -49,16 +54,10 @@ impl Ordered for Literal {
     ghost orders = { literal_orders };
 
     fn at_or_below(&self, other: &Literal) -> bool {
-        self.kind == other.kind && self.first == other.first && self.second == other.second
+        self == other
     }
 
     fn precedes(&self, other: &Literal) -> bool {
-        if self.kind != other.kind {
-            return self.kind < other.kind;
-        }
-        if self.first != other.first {
-            return self.first < other.first;
-        }
-        self.second < other.second
+        self < other
     }
 }

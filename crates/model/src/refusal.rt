@@ -60,10 +60,10 @@ impl Refusal {
         ensures { result ≡ place self.now }
     {
         match self {
-            Refusal::NoAtom { place } => *place,
-            Refusal::NoLiteral { place } => *place,
-            Refusal::NotLower { place } => *place,
-            Refusal::NotDeclared { place } => *place,
+            Refusal::NoAtom { place }
+            | Refusal::NoLiteral { place }
+            | Refusal::NotLower { place }
+            | Refusal::NotDeclared { place } => *place,
             Refusal::TooManyRows { atom } => *atom as usize,
             _ => 0,
         }

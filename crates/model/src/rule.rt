@@ -1,18 +1,16 @@
 ghost use Rattle.std.specs.Prelude.{◌≡◌, ◌≤◌, Bool, true, length};
-ghost use Rattle.std.specs.List.{flat_map};
-ghost use Rattle.rows.specs.Rows.{earlier};
-ghost use Rattle.model.specs.Literals.{numbers};
 ghost use Rattle.model.specs.Rules.{literals, subset, rule_below, rule_before, canonical, rule_of};
 ghost use Rattle.model.specs.Laws.{rule_orders};
 
 use crate::Literal;
-use rows::{Ordered, covers, fill_from, put_all};
+use rows::{Ordered, put_all};
 
 /// The most literals of a body.
 pub(crate) const LITERALS: usize = 8;
 
 /// A rule: its head, and its body as a set of literals in order. The places past the last literal are blank.
-#[derive(Clone, Copy)]
+// An array with a count: there is no heap, and equal rules are to be equal values to the last place.
+#[derive(Clone, Copy, PartialEq, Eq)]
 pub struct Rule {
     pub(crate) head: u8,
     pub(crate) len: u8,
@@ -33,11 +31,8 @@ impl Rule {
         ensures { result ≡ rule_of head body.now }
     {
         let mut table = [Literal::BLANK; LITERALS];
-        let len = match put_all(body, &mut table) {
-            Ok(len) => len,
-            Err(_) => unreachable(),
-        };
-        fill_from(&mut table, len, Literal::BLANK);
+        let len = put_all(body, &mut table).unwrap();
+        table[len..].fill(Literal::BLANK);
         Rule {
             head,
             len: len as u8,
@@ -56,7 +51,8 @@ impl Rule {
     pub fn body(&self) -> &[Literal]
         ensures { result.now ≡ literals self.now }
     {
-        &self.body[0..(self.len as usize).min(LITERALS)]
+        // No invariant says that the count is at most 8: the clauses speak of a rule of any list of literals.
+        &self.body[..(self.len as usize).min(LITERALS)]
     }
 }
 
@@ -76,10 +72,7 @@ impl Ordered for Rule {
     }
 
     fn precedes(&self, other: &Rule) -> bool {
-        if self.head != other.head {
-            return self.head < other.head;
-        }
-        body_precedes(self.body(), other.body())
+        (self.head, self.body()) < (other.head, other.body())
     }
 }
 
@@ -87,22 +80,5 @@ impl Ordered for Rule {
 fn is_subset(literals: &[Literal], others: &[Literal]) -> bool
     ensures { result ≡ subset literals.now others.now }
 {
-    for literal in literals {
-        if !covers(others, literal) {
-            return false;
-        }
-    }
-    true
-}
-
-/// Whether `mine` comes before `theirs`, literal by literal, a shorter one first.
-fn body_precedes(mine: &[Literal], theirs: &[Literal]) -> bool
-    ensures { result ≡ earlier (flat_map numbers mine.now) (flat_map numbers theirs.now) }
-{
-    for i in 0..mine.len().min(theirs.len()) {
-        if !mine[i].at_or_below(&theirs[i]) {
-            return mine[i].precedes(&theirs[i]);
-        }
-    }
-    mine.len() < theirs.len()
+    literals.iter().all(|literal| others.contains(literal))
 }

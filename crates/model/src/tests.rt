@@ -1,4 +1,4 @@
-ghost use Rattle.std.specs.Prelude.{◌≡◌};
+ghost use Rattle.std.specs.Prelude.{◌≡◌, Decides};
 
 use crate::*;
 use std::process::Abort;
@@ -38,6 +38,15 @@ fn refused(
             Ok(())
         }
     }
+}
+
+#[test]
+fn the_first_byte_names_the_kind(rt: HostRuntime) {
+    assert!(rt; literal(0, 1, 0).kind() == Some(Kind::Atom));
+    assert!(rt; literal(1, 1, 0).kind() == Some(Kind::NotAtom));
+    assert!(rt; literal(2, 1, 1).kind() == Some(Kind::Choice));
+    assert!(rt; literal(3, 1, 1).kind() == Some(Kind::NotChoice));
+    assert!(rt; literal(4, 1, 1).kind() == None);
 }
 
 #[test]
@@ -178,4 +187,36 @@ fn supposings_end_as_they_began(rt: HostRuntime) {
         assert!(rt; *none.suppositions == Suppositions::none());
     }
     assert!(rt; s == Suppositions::none());
+}
+
+// What `==` says of two literals, alternatives, rules, models and suppositions: that they are the same value. One function for
+// each, since a bound of PartialEq alone says less.
+fn same_literals(x: &Literal, y: &Literal) -> bool
+    ensures { Decides result (x.now ≡ y.now) }
+{
+    x == y
+}
+
+fn same_alternatives(x: &Alternative, y: &Alternative) -> bool
+    ensures { Decides result (x.now ≡ y.now) }
+{
+    x == y
+}
+
+fn same_rules(x: &Rule, y: &Rule) -> bool
+    ensures { Decides result (x.now ≡ y.now) }
+{
+    x == y
+}
+
+fn same_models(x: &Model, y: &Model) -> bool
+    ensures { Decides result (x.now ≡ y.now) }
+{
+    x == y
+}
+
+fn same_suppositions(x: &Suppositions, y: &Suppositions) -> bool
+    ensures { Decides result (x.now ≡ y.now) }
+{
+    x == y
 }

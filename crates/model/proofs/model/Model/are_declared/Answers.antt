@@ -1,24 +1,17 @@
-use Rattle.std.proofs.Common.{◌+◌, sym, ◌∙◌, arith, rules}
-use Rattle.std.proofs.lemmas.List.{at_drop_more, at_drop_all}
-use Rattle.std.proofs.lemmas.Bool.Decides.{nat_tests}
-use Rattle.model.specs.Judging.{all_declared}
+use Rattle.std.proofs.Common.{◌≡◌, ◌||◌, eqb, length, rules, refl, sym, ap, tests, ◌∙◌}
+use Rattle.std.specs.List.{list_all, range_with_len, zip}
+use Rattle.std.proofs.lemmas.Iterator.{YieldsList-from_slice, YieldsList-from_range, YieldsList-from_zip}
+use Rattle.std.proofs.lemmas.Iterator.Search.{all_from_yields_List}
+use Rattle.model.specs.Judging.{is_declared}
 use Rattle.model.specs.Models.{alternatives, sizes}
+use Rattle.model.proofs.Tables.{each_declared}
 use Rattle.model.proofs.model.Model.are_declared.Goals as goal
-use Rattle.model.proofs.model.Model.are_declared.Goals.{else-choice-ne0-via-then-choice-ne0+else-not-is_declared, else-choice-ne0-via-else-choice-ne0}
-
-pub loop-i-preserved : goal.loop-i-preserved
-loop-i-preserved c =
-    let step = at_drop_more (all_declared (sizes (alternatives c.args.self.now)) (c.loop-i.i + 1)) c.args.suppositions.now.choices c.loop-i.i 0 (search rules) in
-    elim c.else-choice-ne0.branch [
-      | else-choice-ne0-via-then-choice-ne0+else-not-is_declared w ↦ let is = w.if-not-is_declared.ensures in grind (arith, nat_tests)
-      | else-choice-ne0-via-else-choice-ne0 w ↦ let none = w.if-choice-ne0.false in grind (arith, nat_tests)
-    ]
-
-pub returns-then-not-is_declared : goal.returns-then-not-is_declared
-returns-then-not-is_declared c =
-    let step = at_drop_more (all_declared (sizes (alternatives c.args.self.now)) (c.loop-i.i + 1)) c.args.suppositions.now.choices c.loop-i.i 0 (search rules) in
-    let is = c.if-not-is_declared.ensures in
-    grind (arith, nat_tests)
 
 pub returns : goal.returns
-returns c = sym (at_drop_all (all_declared (sizes (alternatives c.args.self.now)) (c.loop-i.i + 1)) c.args.suppositions.now.choices c.loop-i.i (search rules)) ∙ c.loop-i.invariant
+returns c =
+    let ns = sizes (alternatives c.args.self.now) in
+    let choices = c.args.suppositions.now.choices in
+    let long : length choices ≡ 16 = search rules in
+    all_from_yields_List (λ p. eqb p.0 0 || is_declared ns p.1 p.0) c.all.new.self _ c.all.result c.all.ensures.ran (YieldsList-from_zip (YieldsList-from_slice choices (cc)) (YieldsList-from_range 1 17 16 (cc) refl)) (λ x b q k. search (rules, tests))
+    ∙ ap (λ n. list_all (λ p. eqb p.0 0 || is_declared ns p.1 p.0) (zip choices (range_with_len 1 n))) (sym long)
+    ∙ each_declared ns 1 choices

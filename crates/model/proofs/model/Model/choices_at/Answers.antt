@@ -1,19 +1,13 @@
-use Rattle.std.proofs.Common.{◌≤◌, get_or, sym, arith}
-use Rattle.std.proofs.lemmas.List.{get_or_past}
-use Rattle.std.proofs.lemmas.Bool.Decides.{nat_tests}
-use Rattle.model.specs.Models.{alternatives, sizes}
-use Rattle.model.proofs.Tables.{nowhere, sizes_count, sizes_at, whole_at}
+use Rattle.std.proofs.Common.{◌≡◌, ◌∙◌, get_or, arith, rules}
+use Rattle.model.proofs.Tables.{nowhere, choices_found, choices_at, few_at}
 use Rattle.model.proofs.model.Model.choices_at.Goals as goal
+use Rattle.model.proofs.model.Model.choices_at.Goals.{After-map_or}
 
-pub returns-then-place-self : goal.returns-then-place-self
-returns-then-place-self c =
-    let m = c.args.self.now in
-    let whole = whole_at m.alternatives m.declared m.places m.few m.canonical c.args.place c.if-place-self.true in
-    let few : (get_or m.alternatives c.args.place nowhere).choices ≤ 8 = grind (arith, nat_tests) in
-    record { count = sym (sizes_at m.alternatives m.declared m.places m.few m.canonical c.args.place c.if-place-self.true); few = few }
+found : (c : After-map_or) → c.map_or.result ≡ (get_or c.args.self.now.alternatives c.args.place nowhere).choices
+found c = choices_found c.args.self.now.alternatives c.args.place c.map_or.result c.get.result c.get.ensures.lookup (search rules)
 
-pub returns-else-place-self : goal.returns-else-place-self
-returns-else-place-self c =
+pub returns : goal.returns
+returns c =
     let m = c.args.self.now in
-    let all = sizes_count m.alternatives m.declared m.places m.few m.canonical in
-    record { count = sym (get_or_past (sizes (alternatives m)) c.args.place 0 (omega arith)); few = omega arith }
+    let few = few_at m.alternatives m.declared m.places m.few m.canonical m.unused c.args.place in
+    record { count = found c ∙ choices_at m.alternatives m.declared m.places m.few m.canonical m.unused c.args.place; few = omega (arith, found c) }

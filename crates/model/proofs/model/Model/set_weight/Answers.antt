@@ -15,18 +15,12 @@ place c =
     let m = c.args.self.now in
     declared_place m.alternatives m.declared m.places m.few m.canonical c.args.alternative c.args.choice (sym c.if-not-is_declared.ensures)
 
-pub bounds-self-at : goal.bounds-self-at
-bounds-self-at c = let p = place (goal.at.bounds-self-at c).Else-not-is_declared in omega (arith, p.1, c.args.self.now.few)
-
-pub bounds-changed-choice : goal.bounds-changed-choice
-bounds-changed-choice c =
+pub bounds-self-choice : goal.bounds-self-choice
+bounds-self-choice c =
     let m = c.args.self.now in
-    let p = place (goal.at.bounds-changed-choice c).Else-not-is_declared in
+    let p = place (goal.at.bounds-self-choice c).Else-not-is_declared in
     let whole = whole_at m.alternatives m.declared m.places m.few m.canonical (c.args.alternative - 1) p.1 in
     grind (arith, nat_tests)
-
-pub bounds-self-at-2 : goal.bounds-self-at-2
-bounds-self-at-2 c = let p = place (goal.at.bounds-self-at-2 c).Else-not-is_declared in omega (arith, p.1, c.args.self.now.few)
 
 pub invariant_of-self : goal.invariant_of-self
 invariant_of-self c =

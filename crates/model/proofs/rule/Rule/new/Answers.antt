@@ -1,11 +1,20 @@
-use Rattle.std.proofs.Common.{◌≡◌, ℕ, [], arith}
+use Rattle.std.proofs.Common.{◌≡◌, [], Some, length, take, ◌∙◌, arith, rules}
+use Rattle.rows.specs.Keeping.{kept_all}
 use Rattle.rows.proofs.Pushes.{kept_all_some}
-use Rattle.model.specs.Literals.{alike, sooner}
+use Rattle.model.specs.Literals.{alike, sooner, blank_literal}
+use Rattle.model.proofs.Bodies.{shown_ok, filled, rule_built}
 use Rattle.model.proofs.rule.Rule.new.Goals as goal
 
-pub unreachable-requires : goal.unreachable-requires
-unreachable-requires c =
-    let none = c.in-Err.ensures.defined in
+pub unwrap-len-requires : goal.unwrap-len-requires
+unwrap-len-requires c =
     let some = kept_all_some alike sooner 8 c.args.body.now [] (omega arith) in
-    let z : ◌≡◌ {A = ℕ} 0 1 = cc some.1 in
-    omega arith
+    shown_ok c.put_all.result c.put_all.new.into some.0 (c.put_all.ensures.defined ∙ some.1)
+
+pub returns : goal.returns
+returns c =
+    let n = c.unwrap-len.result in
+    let table = c.put_all.new.into in
+    let put : Some (take n table) ≡ kept_all alike sooner 8 [] c.args.body.now = rw c.unwrap-len.ensures at c.put_all.ensures.defined in
+    let few = rw c.unwrap-len.ensures at c.put_all.ensures.fits in
+    let long : length table ≡ 8 = search rules in
+    rule_built c.args.head n c.args.body.now table _ put few long (filled 8 n blank_literal table c.fill.new.self long (c.fill.ensures.after (λ y is. is)))
