@@ -1,12 +1,16 @@
 -- How far a run has come in a list of calls.
-use Rattle.std.specs.Prelude.{◌≡◌, ℕ, suc, ◌<◌, ◌≤◌, Bool, true, List, [], ◌∷◌, map, drop, slice_set}
+use Rattle.std.specs.Prelude.{◌≡◌, ℕ, suc, ◌+◌, ◌<◌, Bool, true, List, [], ◌∷◌, map, length, slice_set}
+use Rattle.std.specs.Iterator.Adapters.{enumerate_source, enumerate_count}
+use Rattle.std.specs.Slice.Iter.{iter_rest}
+use Rattle.std.specs.declared.iter.Enumerate.{Enumerate}
+use Rattle.std.specs.declared.slice.Iter.{Iter}
+use Rattle.std.specs.declared.ops.ControlFlow.{ControlFlow}
+use Rattle.std.specs.declared.ops.ControlFlow.TheVariants.{Continue, Break}
 use Rattle.model.specs.declared.model.Model.{Model}
 use Rattle.model.specs.declared.suppositions.Suppositions.{Suppositions}
 use Rattle.model.specs.Journal as journal
 use Rattle.model.specs.Journal.{Journal, declares, weighs, states, checks, supposes, ends, asks, feed, Agrees}
 use Rattle.session.specs.declared.call.Call.{Call}
-use Rattle.session.specs.declared.runs.Outcome.{Outcome}
-use Rattle.session.specs.declared.runs.Outcome.TheVariants.{Ended, Done}
 use Rattle.session.specs.Sessions.{called, accepts, after, acceptances}
 
 -- the journal after a call, but for the beginning and the end of a supposing, which stay to be fed
@@ -24,30 +28,37 @@ abbrev pub flagged : List Bool → ℕ → List Bool → List Bool
 flagged flags at [] = flags
 flagged flags at (new ∷ news) = flagged (slice_set flags at new) (suc at) news
 
--- the calls from a place on
-abbrev pub calls_from : ℕ → List Call → List journal.Call
-calls_from at calls = map called (drop at calls)
+-- all of `calls` after the journal j lead where those that are left of them lead after k: to one journal, and to the same
+-- flags, of which those from the place `from` up to `at` are written already
+pub record Leads (j k : Journal) (calls rest : List Call) (from at : ℕ) (before behind : List Bool) : Type 0 where
+  pub journal : after j (map called calls) ≡ after k (map called rest)
+  pub flags : flagged before from (acceptances j (map called calls)) ≡ flagged behind at (acceptances k (map called rest))
 
--- a run from `from` on, begun with the journal j, has come to `at`: a journal agrees with the session, and with `more` fed
--- to it the calls from `at` on lead where the whole run leads
-pub record Reached (j : Journal) (more : Journal → Journal) (calls : List Call) (from at : ℕ) (before behind : List Bool) (m : Model) (s : Suppositions) : Type 0 where
+-- a run that was begun with the journal j has come to where a journal agrees with the session, and `more` is fed to it next
+pub record Reached (j : Journal) (more : Journal → Journal) (calls rest : List Call) (from at : ℕ) (before behind : List Bool) (m : Model) (s : Suppositions) : Type 0 where
   pub here : Journal
   pub notes : here.notes ≡ j.notes
   pub agrees : Agrees here m s
-  pub leads : after j (calls_from from calls) ≡ after (more here) (calls_from at calls)
-  pub flags : flagged before from (acceptances j (calls_from from calls)) ≡ flagged behind at (acceptances (more here) (calls_from at calls))
+  pub leads : Leads j (more here) calls rest from at before behind
 
 -- a run that is done has come to the end of the calls
 pub record Finished (j : Journal) (calls : List Call) (from : ℕ) (before behind : List Bool) (m : Model) (s : Suppositions) : Type 0 where
-  pub agrees : Agrees (after j (calls_from from calls)) m s
-  pub flags : behind ≡ flagged before from (acceptances j (calls_from from calls))
+  pub agrees : Agrees (after j (map called calls)) m s
+  pub flags : behind ≡ flagged before from (acceptances j (map called calls))
 
--- what an outcome says: the run stopped behind the end of the supposing that it is in, or it is done
-abbrev pub Ran : Outcome → Journal → List Call → ℕ → List Bool → List Bool → Model → Suppositions → Type 0
-Ran (Ended next) j calls from before behind m s = Reached j (λ k. feed k ends true) calls from next before behind m s
-Ran (Done t) j calls from before behind m s = Finished j calls from before behind m t
+-- the calls that are left, and the place of the first of them among all
+abbrev pub left : Enumerate (Iter Call) → List Call
+left calls = iter_rest (enumerate_source calls)
 
--- only a run within a supposing stops before the last call, and then it has come on
-abbrev pub Stopped : Outcome → Bool → ℕ → ℕ → Type 0
-Stopped (Ended next) nested from count = (nested ≡ true) × (from < next) × (next ≤ count)
-Stopped (Done t) nested from count = Unit {0}
+abbrev pub place : Enumerate (Iter Call) → ℕ
+place calls = enumerate_count calls
+
+-- what a run answers: it stopped behind the end of the supposing that it is in, or it is done
+abbrev pub Ran : ControlFlow Suppositions (Unit {0}) → Journal → Enumerate (Iter Call) → Enumerate (Iter Call) → List Bool → List Bool → Model → Suppositions → Type 0
+Ran (Continue _) j calls rest before behind m s = Reached j (λ k. feed k ends true) (left calls) (left rest) (place calls) (place rest) before behind m s
+Ran (Break t) j calls rest before behind m s = Finished j (left calls) (place calls) before behind m t
+
+-- a run that stops has come on, and the places count the calls that it made
+abbrev pub Stopped : ControlFlow Suppositions (Unit {0}) → Enumerate (Iter Call) → Enumerate (Iter Call) → Type 0
+Stopped (Continue _) calls rest = (length (left rest) < length (left calls)) × (place rest + length (left rest) ≡ place calls + length (left calls))
+Stopped (Break t) calls rest = Unit {0}

@@ -1,18 +1,13 @@
-ghost use Rattle.std.specs.Prelude.{◌≡◌, true, false, [], map, length, slice_set};
+ghost use Rattle.std.specs.Prelude.{◌≡◌, ◌+◌, ◌<◌, ◌^◌, map, length, slice_set};
 ghost use Rattle.model.specs.Journal.{Journal, Agrees, fresh};
 ghost use Rattle.session.specs.Sessions.{called, accepts, after, acceptances, overwritten};
-ghost use Rattle.session.specs.Running.{answered, Ran, Stopped};
+ghost use Rattle.session.specs.Running.{answered, left, place, Ran, Stopped};
 
 use crate::Call;
 use model::{Model, Suppositions, suppose};
-
-/// How a part of a run came to its end.
-enum Outcome {
-    /// By the end of the supposing that it is in; the run goes on from this place.
-    Ended(usize),
-    /// With the last call, at which this was supposed.
-    Done(Suppositions),
-}
+use std::iter::Enumerate;
+use std::ops::ControlFlow;
+use std::slice::Iter;
 
 /// Makes a call, unless it begins or ends a supposing, and says whether the session accepts it.
 fn answer(model: &mut Model, suppositions: &Suppositions, call: Call<'_>) -> bool
@@ -31,8 +26,7 @@ fn answer(model: &mut Model, suppositions: &Suppositions, call: Call<'_>) -> boo
             alternative,
             choice,
         } => suppositions.check(model, alternative, choice).is_ok(),
-        Call::Suppose { .. } => true,
-        Call::End => true,
+        Call::Suppose { .. } | Call::End => true,
     }
 }
 
@@ -40,53 +34,42 @@ fn answer(model: &mut Model, suppositions: &Suppositions, call: Call<'_>) -> boo
 fn mark(flags: &mut [bool], at: usize, flag: bool)
     ensures { flags.new ≡ slice_set flags.old at flag }
 {
+    // What is written through `get_mut` is not known of the slice afterwards, so the proof needs the index.
     if at < flags.len() {
         flags[at] = flag;
     }
 }
 
-/// Runs the calls from `from` on, up to the last one, or, `nested` in a supposing, up to its end.
-fn run_from(
+/// Runs the calls that are left, up to the end of the supposing that it is in; or up to the last call, and then breaks off
+/// with what was supposed there.
+// Model and suppositions stay two parameters, since the guard of a supposing lends the suppositions alone.
+fn run_within(
     model: &mut Model,
     suppositions: &mut Suppositions,
-    calls: &[Call<'_>],
-    from: usize,
-    nested: bool,
+    calls: &mut Enumerate<Iter<'_, Call<'_>>>,
     accepted: &mut [bool],
-) -> Outcome
+) -> ControlFlow<Suppositions>
+    requires { place calls.old + length (left calls.old) < 2 ^ 64 }
     ensures same { suppositions.new ≡ suppositions.old }
-    ensures stopped { Stopped result nested from (length calls.now) }
-    ensures ran { (j : Journal) → Agrees j model.old suppositions.old → (nested ≡ false → j.notes ≡ []) → Ran result j calls.now from accepted.old accepted.new model.new suppositions.new }
+    ensures stopped { Stopped result calls.old calls.new }
+    ensures ran { (j : Journal) → Agrees j model.old suppositions.old → Ran result j calls.old calls.new accepted.old accepted.new model.new suppositions.new }
 {
-    let mut at = from;
-    while at < calls.len() {
-        let call = calls[at];
-        let ok = answer(model, suppositions, call);
+    while let Some((at, call)) = calls.next() {
+        let ok = answer(model, suppositions, *call);
         mark(accepted, at, ok);
-        at += 1;
-        match call {
+        match *call {
             Call::Suppose {
                 alternative,
                 choice,
             } => {
-                let outcome = {
-                    let guard = suppose(suppositions, model, alternative, choice);
-                    run_from(model, guard.suppositions, calls, at, true, accepted)
-                };
-                match outcome {
-                    Outcome::Ended(next) => at = next,
-                    Outcome::Done(supposed) => return Outcome::Done(supposed),
-                }
+                let guard = suppose(suppositions, model, alternative, choice);
+                run_within(model, guard.suppositions, calls, accepted)?;
             }
-            Call::End => {
-                if nested {
-                    return Outcome::Ended(at);
-                }
-            }
+            Call::End => return ControlFlow::Continue(()),
             _ => {}
         }
     }
-    Outcome::Done(*suppositions)
+    ControlFlow::Break(*suppositions)
 }
 
 /// Runs all calls on an empty model, writes for each whether it was accepted, as far as there are places, and says what is
@@ -97,9 +80,13 @@ pub fn replay(calls: &[Call<'_>], model: &mut Model, accepted: &mut [bool]) -> S
 {
     *model = Model::new();
     let mut suppositions = Suppositions::none();
-    match run_from(model, &mut suppositions, calls, 0, false, accepted) {
-        Outcome::Done(supposed) => supposed,
-        Outcome::Ended(_) => unreachable(),
+    let mut rest = calls.iter().enumerate();
+    loop {
+        // An end without a beginning changes nothing.
+        let ran = run_within(model, &mut suppositions, &mut rest, accepted);
+        if let ControlFlow::Break(supposed) = ran {
+            return supposed;
+        }
     }
 }
 
@@ -113,16 +100,16 @@ pub fn run(calls: &[Call<'_>], model: &mut Model) -> Suppositions
 #[cfg(test)]
 mod tests {
     use super::*;
-    use model::Literal;
+    use model::{Kind, Literal};
 
     const LOW: Literal = Literal {
-        kind: 2,
+        kind: Kind::Choice as u8,
         first: 1,
         second: 1,
     };
 
     const UNKNOWN: Literal = Literal {
-        kind: 2,
+        kind: Kind::Choice as u8,
         first: 3,
         second: 1,
     };
