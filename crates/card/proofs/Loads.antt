@@ -1,40 +1,22 @@
 -- The calls that records make.
-use Rattle.std.proofs.Common.{◌≡◌, ℕ, ◌+◌, ◌-◌, ◌<◌, ◌≤◌, List, [], ◌∷◌, length, is_ok, IfOk, Some, None, Ok, Err, Option, Result, sym, refl, ap, ◌∙◌, subst, arith}
+use Rattle.std.proofs.Common.{◌≡◌, ℕ, ◌+◌, ◌-◌, ◌<◌, ◌≤◌, true, List, [], ◌∷◌, length, is_ok, IfOk, OnOk, Some, None, Ok, Err, Option, Result, sym, refl, ap, ◌∙◌, subst, arith}
+use Rattle.std.proofs.lemmas.Bool.{false≢true}
 use Rattle.model.specs.declared.literal.Literal.{Literal}
 use Rattle.model.specs.declared.model.Model.{Model}
 use Rattle.model.specs.declared.refusal.Refusal.{Refusal}
-use Rattle.model.specs.declared.rule.Rule as model
 use Rattle.model.specs.declared.suppositions.Suppositions.{Suppositions}
 use Rattle.model.specs.Journal.{Journal, Agrees, feed, declares, states}
-use Rattle.model.specs.Models.{alternatives, rules, declaring, stating, outcome}
 use Rattle.card.specs.declared.fault.Fault.{Fault}
 use Rattle.card.specs.Encoding.{Entry, alternative, rule, end, encoding}
 use Rattle.card.specs.declared.reader.Record.{Record}
 use Rattle.card.specs.declared.reader.Record.TheVariants.{Alternative, Rule, End}
 use Rattle.card.specs.Reading.{step, entry}
-use Rattle.card.specs.Loading.{Held, weights, literals, taking, holding, told_held, declared_held, stated_held, recorded, onto, loaded_from, none}
+use Rattle.card.specs.Loading.{Held, weights, literals, taking, holding, told_held, recorded, onto, loaded_from}
 use Rattle.card.specs.Walking.{Walk, walked, onward, preceded, Open, Whole}
 use Rattle.card.proofs.Framing.{step_fits, encoding_some}
 use Rattle.card.proofs.Walks.{walk_at, walk_on, Lawful, walked_lawful}
 
-held_is : (as' bs : List (List ℕ)) (rs ss : List model.Rule) → as' ≡ bs → rs ≡ ss → ◌≡◌ {A = Held} (record { alternatives = as'; rules = rs }) (record { alternatives = bs; rules = ss })
-held_is as' bs rs ss p q = λ i. record { alternatives = p i; rules = q i }
-
 module _ (r : Result (Unit {0}) Refusal) (m n : Model) (bytes : List ℕ) where
-  pub took_alternative : (ws : List ℕ) → ws ≡ weights bytes → outcome r (alternatives n) ≡ declaring (alternatives m) ws → rules n ≡ rules m → told_held r n ≡ taking (holding m) (alternative bytes)
-  took_alternative ws is h same = go r (h ∙ ap (declaring (alternatives m)) is)
-    where
-      go : (r : Result (Unit {0}) Refusal) → outcome r (alternatives n) ≡ declaring (alternatives m) (weights bytes) → told_held r n ≡ taking (holding m) (alternative bytes)
-      go (Ok u) k = ap Ok (held_is (alternatives n) (alternatives n) (rules n) (rules m) refl same) ∙ ap (λ o. declared_held o (rules m)) k
-      go (Err f) k = ap (λ o. declared_held o (rules m)) k
-
-  pub took_rule : (head : ℕ) (ls : List Literal) → ls ≡ literals bytes → outcome r (rules n) ≡ stating (alternatives m) (rules m) head ls → alternatives n ≡ alternatives m → told_held r n ≡ taking (holding m) (rule head bytes)
-  took_rule head ls is h same = go r (h ∙ ap (stating (alternatives m) (rules m) head) is)
-    where
-      go : (r : Result (Unit {0}) Refusal) → outcome r (rules n) ≡ stating (alternatives m) (rules m) head (literals bytes) → told_held r n ≡ taking (holding m) (rule head bytes)
-      go (Ok u) k = ap Ok (held_is (alternatives n) (alternatives m) (rules n) (rules n) same refl) ∙ ap (stated_held (alternatives m)) k
-      go (Err f) k = ap (stated_held (alternatives m)) k
-
   pub took_declares : (j : Journal) (s : Suppositions) (ws : List ℕ) → ws ≡ weights bytes → Agrees (feed j (declares ws) (is_ok r)) n s → IfOk r (λ _. Agrees (recorded j (alternative bytes ∷ [])) n s)
   took_declares j s ws is g = go r (subst (λ vs. Agrees (feed j (declares vs) (is_ok r)) n s) is g)
     where
@@ -87,7 +69,7 @@ module _ (card : List ℕ) (first : Model) (seen : List ℕ) (at : ℕ) (m : Mod
     after : walk_at card at ≡ preceded e (walk_at card (at + length (encoding e)))
     after = here (Ok e) is ∙ onward_more e (λ s. walk_at card (at + s)) more
 
-    pub coming_more : (n : Model) (seen' : List ℕ) (at' : ℕ) → seen' ≡ seen → at' ≡ at + length (encoding e) → Ok (holding n) ≡ taking (holding m) e
+    coming_more : (n : Model) (seen' : List ℕ) (at' : ℕ) → seen' ≡ seen → at' ≡ at + length (encoding e) → Ok (holding n) ≡ taking (holding m) e
         → ((j : Journal) (s : Suppositions) → Agrees j m s → Agrees (recorded j (e ∷ [])) n s) → Coming card first seen' at' n × (length card - at' < length card - at)
     coming_more n seen' at' as_before moved took keeps =
         let fits = step_fits card at e (ap (λ bs. step bs at) (sym c.same) ∙ sym is) in
@@ -104,14 +86,16 @@ module _ (card : List ℕ) (first : Model) (seen : List ℕ) (at : ℕ) (m : Mod
           omega arith,
         )
 
+    -- and taken
+    pub coming_on : (r : Result (Unit {0}) Refusal) → is_ok r ≡ true → (n : Model) (seen' : List ℕ) (at' : ℕ) → seen' ≡ seen → at' ≡ at + length (encoding e) → told_held r n ≡ taking (holding m) e
+        → ((j : Journal) (s : Suppositions) → Agrees j m s → OnOk r (Agrees (recorded j (e ∷ [])) n s)) → Coming card first seen' at' n × (length card - at' < length card - at)
+    coming_on (Ok u) ok n seen' at' p q took keeps = coming_more n seen' at' p q took keeps
+    coming_on (Err f) ok n seen' at' p q took keeps = absurd (false≢true ok)
+
 pub open_found : (r : Record) → (r ≡ End → ⊥) → Open (entry r ∷ [])
 open_found (Alternative weights) h = tt
 open_found (Rule head literals) h = tt
 open_found End h = absurd (h refl)
-
--- an empty model
-pub holding_none : (m : Model) → alternatives m ≡ [] → rules m ≡ [] → holding m ≡ none
-holding_none m p q = held_is (alternatives m) [] (rules m) [] p q
 
 -- where a card is accepted, its walk came to the end record
 ended_whole : (es : List Entry) (at : ℕ) (h next : Held) (fault : Option Fault) → Ok next ≡ loaded_from at h es fault → fault ≡ None
@@ -123,5 +107,9 @@ ended_whole (e ∷ es) at h next fault is = go (taking h e) is (λ k. ended_whol
     go (Ok k) told rest = rest k told
     go (Err f) told rest = let z : ◌≡◌ {A = ℕ} 0 1 = cc in absurd (omega arith)
 
-pub loaded_whole : (card : List ℕ) (first next : Held) → Ok next ≡ loaded_from 0 first (walked card).records (walked card).fault → Whole card (walked card).records
+loaded_whole : (card : List ℕ) (first next : Held) → Ok next ≡ loaded_from 0 first (walked card).records (walked card).fault → Whole card (walked card).records
 loaded_whole card first next is = subst (Lawful card (walked card).records) (ended_whole (walked card).records 0 first next (walked card).fault is) (walked_lawful card)
+
+pub loaded_law : (card : List ℕ) (first : Held) (r : Result (Unit {0}) Fault) (m : Model) → told_held r m ≡ loaded_from 0 first (walked card).records (walked card).fault → OnOk r (Whole card (walked card).records)
+loaded_law card first (Ok u) m is = loaded_whole card first (holding m) is
+loaded_law card first (Err f) m is = tt

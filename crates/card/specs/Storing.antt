@@ -1,5 +1,5 @@
 -- The card that a model is written as.
-use Rattle.std.specs.Prelude.{◌≡◌, ℕ, ◌+◌, ◌/◌, ◌%◌, ◌^◌, ◌<◌, List, [], ◌∷◌, ◌++◌, map, length, take, drop, Ok}
+use Rattle.std.specs.Prelude.{◌≡◌, ℕ, ◌/◌, ◌%◌, ◌^◌, ◌<◌, List, [], ◌∷◌, ◌++◌, map, Ok}
 use Rattle.std.specs.List.{flat_map, AllByRecursion}
 use Rattle.model.specs.declared.alternative.Alternative.{Alternative}
 use Rattle.model.specs.declared.literal.Literal.{Literal}
@@ -41,10 +41,6 @@ alternative_bytes a = encoding (alternative_entry (weights_of a))
 
 abbrev pub rule_bytes : Rule → List ℕ
 rule_bytes r = encoding (rule_entry r)
-
--- after is before with the bytes in place of those that stood from an offset on
-abbrev pub Written : List ℕ → List ℕ → ℕ → List ℕ → Type 0
-Written before after at bytes = after ≡ take at before ++ (bytes ++ drop (at + length bytes) before)
 
 -- raw weights that four bytes can hold
 abbrev pub Fit : List ℕ → Type 0

@@ -16,9 +16,7 @@ impl fmt::Display for Contents {
     ghost output = { λ c. Some (contents_text c) };
 
     fn fmt<W: fmt::Write>(&self, f: &mut fmt::Formatter<W>) -> fmt::Result {
-        let alternatives = self.alternatives;
-        let rules = self.rules;
-        write!(f, "alternatives {alternatives} rules {rules}")
+        write!(f, "alternatives {} rules {}", self.alternatives, self.rules)
     }
 }
 

@@ -41,12 +41,12 @@ impl Fault {
         ensures { result ≡ offset self.now }
     {
         match self {
-            Fault::NumberOfChoices { offset } => *offset,
-            Fault::NumberOfLiterals { offset } => *offset,
-            Fault::UnknownTag { offset } => *offset,
-            Fault::EndsEarly { offset } => *offset,
-            Fault::BytesAfterEnd { offset } => *offset,
-            Fault::Refused { offset, .. } => *offset,
+            Fault::NumberOfChoices { offset }
+            | Fault::NumberOfLiterals { offset }
+            | Fault::UnknownTag { offset }
+            | Fault::EndsEarly { offset }
+            | Fault::BytesAfterEnd { offset }
+            | Fault::Refused { offset, .. } => *offset,
         }
     }
 

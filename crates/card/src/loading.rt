@@ -1,46 +1,71 @@
-ghost use Rattle.std.specs.Prelude.{◌≡◌, ◌*◌, ◌≤◌, true, [], ◌∷◌, length, take, replicate, OnErr, OnOk};
+ghost use Rattle.std.specs.Prelude.{◌≡◌, ◌*◌, ◌<◌, ◌≤◌, ◌/◌, true, ℕ, List, [], ◌∷◌, ◌++◌, length, replicate, OnErr, OnOk};
+ghost use Rattle.std.proofs.Common.{rules as tries};
 ghost use Rattle.model.specs.Journal.{Journal, Agrees, fresh};
-ghost use Rattle.model.specs.Models.{alternatives, rules};
 ghost use Rattle.card.specs.Encoding.{Framed, alternative, rule};
 ghost use Rattle.card.specs.Loading.{weights, literals, taking, holding, told_held, loaded_from, loaded, none, recorded};
 ghost use Rattle.card.specs.Reading.{entry};
+ghost use Rattle.card.specs.LoadingLemmas.{weights_none, literals_none};
 ghost use Rattle.card.specs.Walking.{walked, Whole};
 
-use crate::{Fault, Reader, Record, raw_weight};
+use crate::{Fault, Reader, Record};
 use model::{Literal, Model, Refusal, Suppositions};
 
-/// Numbers out of the bytes of an alternative's weights, and how many they are.
-fn read_weights(bytes: &[u8]) -> ([u32; 8], usize)
-    requires { length bytes.now ≤ 4 * 8 }
-    ensures { (result.1 ≤ 8) × (take result.1 result.0 ≡ weights bytes.now) }
-{
-    let mut table = [0; 8];
-    let count = bytes.len() / 4;
-    for i in 0..count {
-        table[i] = raw_weight(bytes, i).unwrap_or(0);
-    }
-    (table, count)
+/// A value that a record holds in `N` bytes, which are few.
+trait Packed<const N: usize>: Copy {
+    /// What bytes mean, `N` of them to a value; fewer than `N` mean nothing.
+    ghost unpacked: { List ℕ → List Self };
+
+    /// The value that `N` bytes mean.
+    fn unpack(bytes: &[u8; N]) -> Self
+        ensures { (rest : List ℕ) → unpacked (bytes.now ++ rest) ≡ result ∷ unpacked rest };
+
+    ghost few: { (0 < N) × (N < 9) };
+
+    ghost none: { (bytes : List ℕ) → length bytes < N → unpacked bytes ≡ [] };
 }
 
-/// Literals out of the bytes of a rule's body, and how many they are.
-fn read_literals(bytes: &[u8]) -> ([Literal; 8], usize)
-    requires { length bytes.now ≤ 3 * 8 }
-    ensures { (result.1 ≤ 8) × (take result.1 result.0 ≡ literals bytes.now) }
-{
-    let mut table = [Literal {
-        kind: 0,
-        first: 0,
-        second: 0,
-    }; 8];
-    let count = bytes.len() / 3;
-    for i in 0..count {
-        table[i] = Literal {
-            kind: bytes[3 * i],
-            first: bytes[3 * i + 1],
-            second: bytes[3 * i + 2],
-        };
+/// A raw weight: its lowest byte first.
+impl Packed<4> for u32 {
+    ghost unpacked = { weights };
+
+    ghost few = { Prim.search tries };
+
+    ghost none = { weights_none };
+
+    fn unpack(bytes: &[u8; 4]) -> u32 {
+        u32::from_le_bytes(*bytes)
     }
-    (table, count)
+}
+
+/// A literal: its kind, and its first and second number.
+impl Packed<3> for Literal {
+    ghost unpacked = { literals };
+
+    ghost few = { Prim.search tries };
+
+    ghost none = { literals_none };
+
+    fn unpack(bytes: &[u8; 3]) -> Literal {
+        let [kind, first, second] = *bytes;
+        Literal {
+            kind,
+            first,
+            second,
+        }
+    }
+}
+
+/// The values that bytes hold, in the front of `places`.
+fn read_each<'a, T: Packed<N>, const N: usize>(bytes: &[u8], places: &'a mut [T]) -> &'a [T]
+    requires { length bytes.now / N ≤ length places.old }
+    ensures { result.now ≡ T.unpacked bytes.now }
+{
+    let (each, _) = bytes.as_chunks::<N>();
+    // By index, since a proof learns nothing of what is written through a zip with `iter_mut`.
+    for (i, part) in each.iter().enumerate() {
+        places[i] = T::unpack(part);
+    }
+    &places[..each.len()]
 }
 
 /// The call that an alternative's record makes.
@@ -49,8 +74,7 @@ fn take_alternative(model: &mut Model, bytes: &[u8]) -> Result<(), Refusal>
     ensures defined { told_held result model.new ≡ taking (holding model.old) (alternative bytes.now) }
     ensures journal { (j : Journal) (s : Suppositions) → Agrees j model.old s → OnOk result (Agrees (recorded j (alternative bytes.now ∷ [])) model.new s) }
 {
-    let (table, count) = read_weights(bytes);
-    model.declare(&table[0..count])
+    model.declare(read_each(bytes, &mut [0; 8]))
 }
 
 /// The call that a rule's record makes.
@@ -59,8 +83,12 @@ fn take_rule(model: &mut Model, head: u8, bytes: &[u8]) -> Result<(), Refusal>
     ensures defined { told_held result model.new ≡ taking (holding model.old) (rule head bytes.now) }
     ensures journal { (j : Journal) (s : Suppositions) → Agrees j model.old s → OnOk result (Agrees (recorded j (rule head bytes.now ∷ [])) model.new s) }
 {
-    let (table, count) = read_literals(bytes);
-    model.state(head, &table[0..count])
+    let mut places = [Literal {
+        kind: 0,
+        first: 0,
+        second: 0,
+    }; 8];
+    model.state(head, read_each(bytes, &mut places))
 }
 
 /// The call that a record makes; the end record makes none.
@@ -88,9 +116,7 @@ fn take_records(model: &mut Model, card: &[u8]) -> Result<(), Fault>
         if let Record::End = found {
             return Ok(());
         }
-        if let Err(refusal) = take_record(model, found) {
-            return Err(Fault::Refused { offset, refusal });
-        }
+        take_record(model, found).map_err(|refusal| Fault::Refused { offset, refusal })?;
     }
 }
 
@@ -103,11 +129,9 @@ pub fn load(model: &mut Model, card: &[u8]) -> Result<(), Fault>
     ensures journal { (s : Suppositions) → s.choices ≡ replicate 16 0 → OnOk result (Agrees (recorded fresh (walked card.now).records) model.new s) }
 {
     *model = Model::new();
-    match take_records(model, card) {
-        Ok(()) => Ok(()),
-        Err(fault) => {
-            *model = Model::new();
-            Err(fault)
-        }
+    let answer = take_records(model, card);
+    if answer.is_err() {
+        *model = Model::new();
     }
+    answer
 }

@@ -1,10 +1,13 @@
-ghost use Rattle.std.specs.Prelude.{◌≡◌, ◌+◌, ◌<◌, ◌≤◌, true, ◌++◌, length, drop, is_ok, MatchResult};
+ghost use Rattle.std.specs.Prelude.{◌≡◌, ℕ, ◌+◌, ◌^◌, ◌<◌, ◌≤◌, true, List, ◌++◌, length, drop, is_ok, OnOk, MatchResult};
 ghost use Rattle.std.specs.List.{flat_map, AllByRecursion};
+ghost use Rattle.rows.specs.Lending.{Grown};
 ghost use Rattle.model.specs.Alternatives.{weights_of};
+ghost use Rattle.model.specs.Models.{alternatives};
 ghost use Rattle.model.specs.Rules.{literals};
-ghost use Rattle.card.specs.Storing.{weight_bytes, literal_bytes, alternative_bytes, rule_bytes, stored, Written, Fit, ReadsBack};
+ghost use Rattle.card.specs.Storing.{weight_bytes, literal_bytes, alternative_bytes, rule_bytes, stored, Fit, ReadsBack};
 
 use model::{Alternative, Literal, Model, Refusal, Rule};
+use rows::{Full, Lent};
 
 /// Writes the card of a model into the front of `buffer`, and says how many bytes it has. The bytes past them stay.
 /// A buffer that is too short stays as it is. The card loads as that model again.
@@ -13,130 +16,132 @@ pub fn store(model: &Model, buffer: &mut [u8]) -> Result<usize, Refusal>
     ensures bounded { length (stored model.now) ≤ 4146 }
     ensures back { is_ok result ≡ true → ReadsBack model.now }
 {
-    let alternatives = model.alternatives();
-    let rules = model.rules();
-    if buffer.len() < size_of_alternatives(alternatives) + size_of_rules(rules) + 2 {
+    if buffer.len() < model.size() {
         return Err(Refusal::ShortBuffer);
     }
-    let at = write_alternatives(buffer, 0, alternatives);
-    let at = write_rules(buffer, at, rules);
-    Ok(write(buffer, at, b"EN"))
+    let mut card = Lent::new(buffer);
+    model.write(&mut card).map_err(|_| Refusal::ShortBuffer)?;
+    Ok(card.len())
 }
 
-/// How many bytes the records of these alternatives have.
-fn size_of_alternatives(alternatives: &[Alternative]) -> usize
-    requires { length (flat_map alternative_bytes alternatives.now) ≤ 4146 }
-    ensures { result ≡ length (flat_map alternative_bytes alternatives.now) }
+/// What has bytes on a card.
+trait Stored {
+    ghost bytes: { Self → List ℕ };
+
+    /// That it has few enough parts for one byte to count them.
+    ghost few: { Self → Type 0 } = { λ _. Unit {0} };
+
+    /// What the type of its numbers says.
+    ghost fits: { Self → Type 0 } = { λ _. Unit {0} };
+
+    /// How many bytes it has.
+    fn size(&self) -> usize
+        requires { length (bytes self.now) < 2 ^ 64 }
+        ensures { result ≡ length (bytes self.now) };
+
+    /// Writes its bytes behind what the card holds. Refused where they do not fit.
+    fn write(&self, card: &mut Lent<'_, u8>) -> Result<(), Full>
+        requires { few self.now }
+        ensures grown { Grown card.old card.new (bytes self.now) result }
+        ensures fits { OnOk result (fits self.now) };
+}
+
+/// How many bytes these have, one after the other.
+fn size_of_each<T: Stored>(each: &[T]) -> usize
+    requires { length (flat_map T.bytes each.now) < 2 ^ 64 }
+    ensures { result ≡ length (flat_map T.bytes each.now) }
 {
-    let mut size = 0;
-    for alternative in alternatives {
-        size += 3 + 4 * alternative.weights().len();
+    each.iter().map(|x| x.size()).sum()
+}
+
+/// Writes these, one after the other.
+fn write_each<T: Stored>(each: &[T], card: &mut Lent<'_, u8>) -> Result<(), Full>
+    requires { AllByRecursion T.few each.now }
+    ensures grown { Grown card.old card.new (flat_map T.bytes each.now) result }
+    ensures fits { OnOk result (AllByRecursion T.fits each.now) }
+{
+    for x in each {
+        x.write(card)?;
     }
-    size
+    Ok(())
 }
 
-/// How many bytes the records of these rules have.
-fn size_of_rules(rules: &[Rule]) -> usize
-    requires { length (flat_map rule_bytes rules.now) ≤ 4146 }
-    ensures { result ≡ length (flat_map rule_bytes rules.now) }
-{
-    let mut size = 0;
-    for rule in rules {
-        size += 4 + 3 * rule.body().len();
+/// All alternatives, then the rules, then the end record.
+impl Stored for Model {
+    ghost bytes = { stored };
+
+    ghost fits = { λ m. AllByRecursion Fit (alternatives m) };
+
+    fn size(&self) -> usize {
+        size_of_each(self.alternatives()) + size_of_each(self.rules()) + 2
     }
-    size
-}
 
-/// Writes the records of these alternatives from `at` on, and says where they end.
-fn write_alternatives(buffer: &mut [u8], at: usize, alternatives: &[Alternative]) -> usize
-    requires room { at + length (flat_map alternative_bytes alternatives.now) ≤ length buffer.old }
-    requires few { AllByRecursion (λ a. length (weights_of a) ≤ 8) alternatives.now }
-    ensures end { result ≡ at + length (flat_map alternative_bytes alternatives.now) }
-    ensures written { Written buffer.old buffer.new at (flat_map alternative_bytes alternatives.now) }
-    ensures fit { AllByRecursion (λ a. Fit (weights_of a)) alternatives.now }
-{
-    let mut end = at;
-    for alternative in alternatives {
-        end = write_alternative(buffer, end, alternative);
+    fn write(&self, card: &mut Lent<'_, u8>) -> Result<(), Full> {
+        write_each(self.alternatives(), card)?;
+        write_each(self.rules(), card)?;
+        card.extend_from_slice(b"EN")
     }
-    end
 }
 
-/// Writes the record of an alternative at `at`, and says where it ends.
-fn write_alternative(buffer: &mut [u8], at: usize, alternative: &Alternative) -> usize
-    requires room { at + length (alternative_bytes alternative.now) ≤ length buffer.old }
-    requires few { length (weights_of alternative.now) ≤ 8 }
-    ensures end { result ≡ at + length (alternative_bytes alternative.now) }
-    ensures written { Written buffer.old buffer.new at (alternative_bytes alternative.now) }
-    ensures fit { Fit (weights_of alternative.now) }
-{
-    let weights = alternative.weights();
-    let at = write(buffer, at, b"AL");
-    let at = write(buffer, at, &[weights.len() as u8]);
-    write_weights(buffer, at, weights)
-}
+impl Stored for Alternative {
+    ghost bytes = { alternative_bytes };
 
-/// Writes raw weights from `at` on, and says where they end.
-fn write_weights(buffer: &mut [u8], at: usize, weights: &[u32]) -> usize
-    requires { at + length (flat_map weight_bytes weights.now) ≤ length buffer.old }
-    ensures end { result ≡ at + length (flat_map weight_bytes weights.now) }
-    ensures written { Written buffer.old buffer.new at (flat_map weight_bytes weights.now) }
-    ensures fit { Fit weights.now }
-{
-    let mut end = at;
-    for weight in weights {
-        end = write(buffer, end, &weight.to_le_bytes());
+    ghost few = { λ a. length (weights_of a) ≤ 8 };
+
+    ghost fits = { λ a. Fit (weights_of a) };
+
+    fn size(&self) -> usize {
+        3 + size_of_each(self.weights())
     }
-    end
-}
 
-/// Writes the records of these rules from `at` on, and says where they end.
-fn write_rules(buffer: &mut [u8], at: usize, rules: &[Rule]) -> usize
-    requires room { at + length (flat_map rule_bytes rules.now) ≤ length buffer.old }
-    requires few { AllByRecursion (λ r. length (literals r) ≤ 8) rules.now }
-    ensures end { result ≡ at + length (flat_map rule_bytes rules.now) }
-    ensures written { Written buffer.old buffer.new at (flat_map rule_bytes rules.now) }
-{
-    let mut end = at;
-    for rule in rules {
-        end = write_rule(buffer, end, rule);
+    fn write(&self, card: &mut Lent<'_, u8>) -> Result<(), Full> {
+        let weights = self.weights();
+        card.extend_from_slice(b"AL")?;
+        card.push(weights.len() as u8)?;
+        write_each(weights, card)
     }
-    end
 }
 
-/// Writes the record of a rule at `at`, and says where it ends.
-fn write_rule(buffer: &mut [u8], at: usize, rule: &Rule) -> usize
-    requires room { at + length (rule_bytes rule.now) ≤ length buffer.old }
-    requires few { length (literals rule.now) ≤ 8 }
-    ensures end { result ≡ at + length (rule_bytes rule.now) }
-    ensures written { Written buffer.old buffer.new at (rule_bytes rule.now) }
-{
-    let body = rule.body();
-    let at = write(buffer, at, b"RU");
-    let at = write(buffer, at, &[rule.head(), body.len() as u8]);
-    write_literals(buffer, at, body)
-}
+impl Stored for Rule {
+    ghost bytes = { rule_bytes };
 
-/// Writes literals from `at` on, and says where they end.
-fn write_literals(buffer: &mut [u8], at: usize, body: &[Literal]) -> usize
-    requires { at + length (flat_map literal_bytes body.now) ≤ length buffer.old }
-    ensures end { result ≡ at + length (flat_map literal_bytes body.now) }
-    ensures written { Written buffer.old buffer.new at (flat_map literal_bytes body.now) }
-{
-    let mut end = at;
-    for literal in body {
-        end = write(buffer, end, &[literal.kind, literal.first, literal.second]);
+    ghost few = { λ r. length (literals r) ≤ 8 };
+
+    fn size(&self) -> usize {
+        4 + size_of_each(self.body())
     }
-    end
+
+    fn write(&self, card: &mut Lent<'_, u8>) -> Result<(), Full> {
+        let body = self.body();
+        card.extend_from_slice(b"RU")?;
+        card.extend_from_slice(&[self.head(), body.len() as u8])?;
+        write_each(body, card)
+    }
 }
 
-/// Writes bytes at `at`, and says where they end.
-fn write(buffer: &mut [u8], at: usize, bytes: &[u8]) -> usize
-    requires { at + length bytes.now ≤ length buffer.old }
-    ensures end { result ≡ at + length bytes.now }
-    ensures written { Written buffer.old buffer.new at bytes.now }
-{
-    let end = at + bytes.len();
-    buffer[at..end].copy_from_slice(bytes);
-    end
+/// A raw weight, the lowest byte first.
+impl Stored for u32 {
+    ghost bytes = { weight_bytes };
+
+    ghost fits = { λ w. w < 2 ^ 32 };
+
+    fn size(&self) -> usize {
+        4
+    }
+
+    fn write(&self, card: &mut Lent<'_, u8>) -> Result<(), Full> {
+        card.extend_from_slice(&self.to_le_bytes())
+    }
+}
+
+impl Stored for Literal {
+    ghost bytes = { literal_bytes };
+
+    fn size(&self) -> usize {
+        3
+    }
+
+    fn write(&self, card: &mut Lent<'_, u8>) -> Result<(), Full> {
+        card.extend_from_slice(&[self.kind, self.first, self.second])
+    }
 }

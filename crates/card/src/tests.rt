@@ -86,7 +86,7 @@ fn a_card_is_its_calls(rt: HostRuntime) {
     assert!(rt; other.declare(&[2, 5, 7]) == Ok(()));
     assert!(rt; other.state(2, &[]) == Ok(()));
     let first = model::Literal {
-        kind: 2,
+        kind: model::Kind::Choice as u8,
         first: 1,
         second: 1,
     };

@@ -1,10 +1,12 @@
-use Rattle.std.proofs.Common.{◌+◌, ◌-◌, ◌*◌, take, drop, ◌∙◌, arith, rules}
-use Rattle.card.proofs.Opening.{value_four, weight_there}
+use Rattle.std.proofs.Common.{◌<◌, ◌/◌, length, get_or, ap, ◌∙◌, arith}
+use Rattle.card.proofs.Opening.{weight_there}
 use Rattle.card.proofs.reader.raw_weight.Goals as goal
 
 pub returns : goal.returns
 returns c =
+    let weights = c.args.weights.now in
     let i = c.args.index in
-    let size = 4 * i + 4 - 4 * i in
-    weight_there c.args.weights.now i size c.from_le_bytes.result (omega arith) (omega arith)
-    (c.from_le_bytes.ensures ∙ value_four (take size (drop (4 * i) c.args.weights.now)) (search rules))
+    let bytes = c.in_ok-bytes.bytes.now in
+    let found = c.in_ok-bytes.ensures.lookup in
+    let here : i < length weights / 4 = omega (arith, found.3.0, c.as_chunks.ensures.front_len) in
+    weight_there weights bytes i c.from_le_bytes.result here (found.1 ∙ ap (λ each. get_or each i bytes) c.as_chunks.ensures.front) c.from_le_bytes.ensures
