@@ -1,9 +1,9 @@
 -- The rows of bodies, literal by literal and rule by rule.
-use Rattle.std.proofs.Common.{◌≡◌, ℕ, ◌+◌, ◌<◌, ◌≤◌, true, false, cond, eqb, List, [], ◌∷◌, map, length, get_or, drop, Some, None, Ok, Err, Option, Result, sym, refl, ap, ◌∙◌}
+use Rattle.std.proofs.Common.{◌≡◌, ℕ, ◌+◌, ◌<◌, ◌≤◌, true, false, cond, eqb, List, [], ◌∷◌, map, length, get_or, drop, Some, None, Option, sym, refl, ap, ◌∙◌}
 use Rattle.std.specs.Option.{option_map}
-use Rattle.std.proofs.lemmas.List.{at_drop_more, at_drop_all, take-map}
+use Rattle.std.proofs.lemmas.List.{at_drop_more, at_drop_all}
 use Rattle.std.proofs.lemmas.Bool.{cond-true, cond-false}
-use Rattle.rows.specs.Keeping.{and_then, kept_all, shown}
+use Rattle.rows.specs.Keeping.{and_then, kept_all}
 use Rattle.rows.specs.Worlds.{inside, sooner}
 use Rattle.rows.specs.declared.row.Row.{Row}
 use Rattle.logic.specs.Atoms.{Lists, lists_of, body_from, bodies_from}
@@ -28,17 +28,17 @@ module _ (limit : ℕ) (os : Options) (t : List Lists) (body : List Literal) (i 
   unfolding body_from
   body_all l = at_drop_all (λ ls. body_from limit os t rows (map meaning ls)) body i l
 
-  module _ (h : i < length body) (room : ℕ) (same : room ≡ limit) (list : List logic.Row) (is : list ≡ (lists_of os t (meaning (get_or body i blank_literal))).own) where
-    next_rows : (o : Option (List logic.Row)) → o ≡ conjoined room rows list → and_then o (λ next. body_from limit os t next (later (i + 1))) ≡ body_from limit os t rows (later i)
+  module _ (h : i < length body) (list : List logic.Row) (is : list ≡ (lists_of os t (meaning (get_or body i blank_literal))).own) where
+    next_rows : (o : Option (List logic.Row)) → o ≡ conjoined limit rows list → and_then o (λ next. body_from limit os t next (later (i + 1))) ≡ body_from limit os t rows (later i)
     unfolding body_from
     next_rows o p =
-        ap (λ q. and_then q (λ next. body_from limit os t next (later (i + 1)))) (p ∙ ap (λ n. conjoined n rows list) same ∙ ap (conjoined limit rows) is)
+        ap (λ q. and_then q (λ next. body_from limit os t next (later (i + 1)))) (p ∙ ap (conjoined limit rows) is)
         ∙ sym (at_drop_more (λ ls. body_from limit os t rows (map meaning ls)) body i blank_literal h)
 
-    pub body_more : (next : List logic.Row) → Some next ≡ conjoined room rows list → body_from limit os t next (later (i + 1)) ≡ body_from limit os t rows (later i)
+    pub body_more : (next : List logic.Row) → Some next ≡ conjoined limit rows list → body_from limit os t next (later (i + 1)) ≡ body_from limit os t rows (later i)
     body_more next p = next_rows (Some next) p
 
-    pub body_stop : None ≡ conjoined room rows list → None ≡ body_from limit os t rows (later i)
+    pub body_stop : None ≡ conjoined limit rows list → None ≡ body_from limit os t rows (later i)
     body_stop p = next_rows None p
 
 -- what stands past the end of a list of rules
@@ -83,15 +83,6 @@ module _ (limit : ℕ) (os : Options) (t : List Lists) (atom : ℕ) (rs : List R
       pub bodies_stop : None ≡ and_then body (put_rows limit held) → None ≡ bodies_from limit os t held (rules_left i)
       bodies_stop q = next_bodies None q
 
--- the same rules, in another list
-pub bodies_same : (limit : ℕ) (os : Options) (t : List Lists) (atom : ℕ) (rs ss : List Rule) → rs ≡ ss → (n : ℕ) (held : List logic.Row)
-    → bodies_from limit os t held (rules.rules_for (map held_rule (drop n rs)) atom) ≡ bodies_from limit os t held (rules.rules_for (map held_rule (drop n ss)) atom)
-bodies_same limit os t atom rs ss e n held = ap (λ (qs : List Rule). bodies_from limit os t held (rules.rules_for (map held_rule (drop n qs)) atom)) e
-
 -- rows of code that are put one after another
 pub put_lists : (limit room : ℕ) (held rows : List Row) (o : Option (List Row)) → room ≡ limit → o ≡ kept_all inside sooner room held rows → option_map as_lists o ≡ put_rows limit (as_lists held) (as_lists rows)
 put_lists limit room held rows o same p = ap (option_map as_lists) p ∙ choices_kept room held rows ∙ ap (λ n. put_rows n (as_lists held) (as_lists rows)) same
-
-pub shown_lists : {E : Type 0} (r : Result ℕ E) (rows : List Row) → shown r (as_lists rows) ≡ option_map as_lists (shown r rows)
-shown_lists (Ok n) rows = ap Some (take-map (λ (r : Row). r.choices) n rows)
-shown_lists (Err e) rows = refl

@@ -1,10 +1,13 @@
 -- Unions that are put one after another: what code keeps of rows is what the definitions keep of lists.
-use Rattle.std.proofs.Common.{◌≡◌, ℕ, ◌+◌, ◌-◌, ◌<◌, ◌≤◌, Bool, true, false, cond, List, [], ◌∷◌, ◌++◌, map, length, get_or, take, drop, Some, None, filter, Option, sym, refl, ap, ◌∙◌, arith}
+use Rattle.std.proofs.Common.{◌≡◌, ℕ, ◌+◌, ◌<◌, ◌≤◌, Bool, true, false, cond, List, [], ◌∷◌, ◌++◌, map, length, get_or, drop, Some, None, Ok, Err, filter, Option, Result, sym, refl, ap, ◌∙◌, arith}
 use Rattle.std.specs.Option.{option_map}
-use Rattle.std.proofs.lemmas.List.{at_drop_more, at_drop_all, length-take-le, take_at, take-map}
-use Rattle.rows.specs.Keeping.{kept, and_then}
+use Rattle.std.proofs.lemmas.List.{at_drop_more, at_drop_all}
+use Rattle.rows.specs.Keeping.{kept, and_then, told}
+use Rattle.rows.specs.Lending.{items, room, SameLoan, Grown}
 use Rattle.rows.specs.Rows.{compatible, union, earlier}
 use Rattle.rows.specs.Worlds.{inside, sooner}
+use Rattle.rows.specs.declared.lent.Lent.{Lent}
+use Rattle.rows.specs.declared.list.Full.{Full}
 use Rattle.rows.specs.declared.row.Row.{Row}
 use Rattle.rows.proofs.Kept.{kept_all_append}
 use Rattle.logic.specs.Minimals.{under}
@@ -82,13 +85,12 @@ module _ (limit : ℕ) (rows : List Row) (ys held : List logic.Row) where
       pub rows_stop : None ≡ put_rows room held (unions row ys) → None ≡ put_rows limit held (rest i)
       rows_stop p = onward None p
 
--- the first n of a slice, copied to the front of another
-pub copied : (front rest from : List Row) (n : ℕ) → front ≡ take (n - 0) from → n ≤ length from → take n (as_lists (front ++ rest)) ≡ take n (as_lists from)
-copied front rest from n is fits =
-    let z : n - 0 ≡ n = omega arith in
-    let same : front ≡ take n from = is ∙ ap (λ k. take k from) z in
-    let long : length front ≡ n = ap length same ∙ length-take-le n from fits in
-    take-map (λ (r : Row). r.choices) n (front ++ rest) ∙ ap as_lists (take_at front rest n long ∙ same) ∙ sym (take-map (λ (r : Row). r.choices) n from)
+-- a list that is cleared and filled again, where what fills it is no more than its room
+pub refilled : (before cleared after : Lent Row) (rows : List Row) (r : Result Unit Full) → SameLoan before cleared → items cleared ≡ [] → length rows ≤ room before → Grown cleared after rows r
+    → (told r (as_lists (items after)) ≡ Some (as_lists rows)) × SameLoan before after
+refilled before cleared after rows (Ok u) loan empty fits grown =
+    (ap Some (ap as_lists (grown.listed ∙ ap (λ l. l ++ rows) empty)), record { lender = grown.loan.lender ∙ loan.lender; size = grown.loan.size ∙ loan.size })
+refilled before cleared after rows (Err e) loan empty fits grown = absurd (omega (arith, grown.1, ap length (ap (λ l. l ++ rows) empty), loan.size))
 
 -- the turns of the loop over the members whose duals are sought
 module _ (limit : ℕ) (os : Options) (members : List Row) (i : ℕ) (ds : List logic.Row) where
@@ -99,19 +101,15 @@ module _ (limit : ℕ) (os : Options) (members : List Row) (i : ℕ) (ds : List 
   unfolding duals_from
   duals_all l = at_drop_all (λ rows. duals_from limit os ds (as_lists rows)) members i l
 
-  module _ (h : i < length members) (room : ℕ) (same : room ≡ limit) (cs : List logic.Row) (are : cs ≡ contrary os (get_or members i no_row).choices) where
-    next_duals : (o : Option (List logic.Row)) → o ≡ conjoined room ds cs → and_then o (λ es. duals_from limit os es (later (i + 1))) ≡ duals_from limit os ds (later i)
+  module _ (h : i < length members) (cs : List logic.Row) (are : cs ≡ contrary os (get_or members i no_row).choices) where
+    next_duals : (o : Option (List logic.Row)) → o ≡ conjoined limit ds cs → and_then o (λ es. duals_from limit os es (later (i + 1))) ≡ duals_from limit os ds (later i)
     unfolding duals_from
     next_duals o p =
-        ap (λ q. and_then q (λ es. duals_from limit os es (later (i + 1)))) (p ∙ ap (λ n. conjoined n ds cs) same ∙ ap (conjoined limit ds) are)
+        ap (λ q. and_then q (λ es. duals_from limit os es (later (i + 1)))) (p ∙ ap (conjoined limit ds) are)
         ∙ sym (at_drop_more (λ rows. duals_from limit os ds (as_lists rows)) members i no_row h)
 
-    pub duals_more : (es : List logic.Row) → Some es ≡ conjoined room ds cs → duals_from limit os es (later (i + 1)) ≡ duals_from limit os ds (later i)
+    pub duals_more : (es : List logic.Row) → Some es ≡ conjoined limit ds cs → duals_from limit os es (later (i + 1)) ≡ duals_from limit os ds (later i)
     duals_more es p = next_duals (Some es) p
 
-    pub duals_stop : None ≡ conjoined room ds cs → None ≡ duals_from limit os ds (later i)
+    pub duals_stop : None ≡ conjoined limit ds cs → None ≡ duals_from limit os ds (later i)
     duals_stop p = next_duals None p
-
--- rows that were appended to nothing, cut from the front
-pub contraries_are : (n : ℕ) (rows : List Row) (more : List logic.Row) → as_lists (take n rows) ≡ more → as_lists (take (n - 0) rows) ≡ more
-contraries_are n rows more is = let z : n - 0 ≡ n = omega arith in ap (λ k. as_lists (take k rows)) z ∙ is

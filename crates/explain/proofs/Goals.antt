@@ -1,7 +1,8 @@
 -- The atoms that a goal depends on are those that are marked for it.
-use Rattle.std.proofs.Common.{◌≡◌, ℕ, suc, ◌-◌, ◌<◌, ◌≤◌, Bool, true, false, cond, eqb, List, map, replicate, sym, refl, ap, ◌∙◌, subst, ⊎_elim, arith}
+use Rattle.std.proofs.Common.{◌≡◌, ℕ, suc, ◌-◌, ◌<◌, ◌≤◌, Bool, true, false, cond, eqb, List, map, take, replicate, Some, Ok, Err, Result, sym, refl, ap, ◌∙◌, subst, ⊎_elim, arith}
+use Rattle.std.proofs.lemmas.List.{get_or-take}
 use Rattle.std.proofs.lemmas.Bool.{cases_eq, both_ways, cond-true, cond-false, eq-eqb, ne_eqb}
-use Rattle.logic.specs.Atoms.{table}
+use Rattle.logic.specs.Atoms.{Lists, nothing, exchanged, lists_of, table}
 use Rattle.logic.specs.Needed.{needed}
 use Rattle.logic.specs.Options.{Options}
 use Rattle.logic.specs.Rules as logic
@@ -13,7 +14,10 @@ use Rattle.model.specs.declared.rule.Rule.{Rule}
 use Rattle.model.specs.Meaning.{meaning, held_rule, held_rules}
 use Rattle.model.specs.Models.{rules}
 use Rattle.model.proofs.Soundness.{held_layered}
-use Rattle.explain.specs.Explaining.{wanted, height, too_wide}
+use Rattle.model.specs.declared.refusal.Refusal.{Refusal}
+use Rattle.model.specs.declared.refusal.Refusal.TheVariants.{TooManyRows}
+use Rattle.explain.specs.declared.work.Table.{Table}
+use Rattle.explain.specs.Explaining.{wanted, height, WorkedUp}
 use Rattle.explain.specs.Marks.{marked, Marked}
 use Rattle.explain.proofs.Marking.{unmarked}
 use Rattle.explain.proofs.Upward.{wide_alike}
@@ -44,13 +48,26 @@ marks_are rules goal marks k m = needed_only rules goal (marked marks) k (record
 pub model_marks : (m : Model) (rs : List Rule) (goal : ℕ) (marks : List Bool) → rs ≡ rules m → Marked (map held_rule rs) goal (replicate 25 false) marks → (a : ℕ) → marked marks a ≡ needed (held_rules m) goal a
 model_marks m rs goal marks same done = marks_are (held_rules m) goal marks (held_layered m) (subst (λ (qs : List Rule). Marked (map held_rule qs) goal (replicate 25 false) marks) same done)
 
+-- so what is worked for the marks is what the goal asks for
 module _ (os : Options) (rules : List logic.Rule) (l : Literal) (h : l.kind ≤ 1) (marks : List Bool) (same : (a : ℕ) → marked marks a ≡ needed rules l.first a) where
-  pub goal_table : table 64 os rules (wanted rules (meaning l)) (height (meaning l)) ≡ table 64 os rules (marked marks) (suc l.first)
-  goal_table =
-      let alike = sym (table_alike 64 os rules (marked marks) (needed rules l.first) (suc l.first) (λ a _. same a)) in
-      atom_meaning (λ g. table 64 os rules (wanted rules g) (height g) ≡ table 64 os rules (marked marks) (suc l.first)) l h alike alike
+  alike : (r : Result Table Refusal) → WorkedUp r os rules (marked marks) (suc l.first) → WorkedUp r os rules (needed rules l.first) (suc l.first)
+  alike (Ok t) w = sym (table_alike 64 os rules (marked marks) (needed rules l.first) (suc l.first) (λ a _. same a)) ∙ w
+  alike (Err f) (none, at) = (
+    sym (table_alike 64 os rules (marked marks) (needed rules l.first) (suc l.first) (λ a _. same a)) ∙ none,
+    at ∙ ap TooManyRows (wide_alike os rules (marked marks) (needed rules l.first) (suc l.first) same),
+  )
 
-  pub goal_wide : too_wide os rules (wanted rules (meaning l)) (height (meaning l)) ≡ too_wide os rules (marked marks) (suc l.first)
-  goal_wide =
-      let alike = sym (wide_alike os rules (marked marks) (needed rules l.first) (suc l.first) same) in
-      atom_meaning (λ g. too_wide os rules (wanted rules g) (height g) ≡ too_wide os rules (marked marks) (suc l.first)) l h alike alike
+  pub goal_worked : (r : Result Table Refusal) → WorkedUp r os rules (marked marks) (suc l.first) → WorkedUp r os rules (wanted rules (meaning l)) (height (meaning l))
+  goal_worked r w = atom_meaning (λ g. WorkedUp r os rules (wanted rules g) (height g)) l h (alike r w) (alike r w)
+
+-- the lists of a goal are the same in the lists of all atoms as in those that it depends on
+pub goal_lists : (os : Options) (ts : List Lists) (g : logic.Literal) → lists_of os ts g ≡ lists_of os (take (height g) ts) g
+goal_lists os ts (logic.is_true a) = sym (get_or-take (suc a) ts a nothing (omega arith))
+goal_lists os ts (logic.is_false a) = ap exchanged (sym (get_or-take (suc a) ts a nothing (omega arith)))
+goal_lists os ts (logic.chosen place n) = refl
+goal_lists os ts (logic.not_chosen place n) = refl
+
+-- nothing is worked for a choice
+pub choice_worked : (os : Options) (rules : List logic.Rule) (l : Literal) → 1 < l.kind → (ts : List Lists) → table 64 os rules (wanted rules (meaning l)) (height (meaning l)) ≡ Some (take (height (meaning l)) ts)
+unfolding table
+choice_worked os rules l h ts = subst (λ n. table 64 os rules (wanted rules (meaning l)) n ≡ Some (take n ts)) (sym (choice_height l h)) refl

@@ -1,7 +1,8 @@
 pub mod Appends
+pub mod Ranges
 pub mod Places
+pub mod Contraries
 pub mod Conjoins
-pub mod Stands
 pub mod Bodies
 pub mod Marking
 pub mod Works

@@ -1,5 +1,5 @@
 -- Marking atoms.
-use Rattle.std.proofs.Common.{◌≡◌, ℕ, zero, suc, ◌+◌, ◌-◌, ◌<◌, ◌≤◌, Bool, true, false, cond, ◌&&◌, ◌||◌, eqb, List, map, length, get_or, drop, set, replicate, sym, refl, ap, ◌∙◌, ⊎_elim, arith}
+use Rattle.std.proofs.Common.{◌≡◌, [], ◌∷◌, ℕ, zero, suc, ◌+◌, ◌-◌, ◌<◌, ◌≤◌, Bool, true, false, cond, ◌&&◌, ◌||◌, eqb, List, map, length, get_or, drop, set, replicate, sym, refl, ap, ◌∙◌, ⊎_elim, arith}
 use mathlib.Core.Bool.{or-true, or-false, or_assoc}
 use Rattle.std.proofs.lemmas.List.{at_drop_more, at_drop_all, get_or-set_same, get_or-set_other}
 use Rattle.std.proofs.lemmas.Bool.{cases_eq, cases_Bool, both_ways, cond-true, cond-false, or_left, or_right, or_cases, eqb-true, eq-eqb, ne_eqb}
@@ -154,3 +154,16 @@ module _ (rs : List rules.Rule) (atom : ℕ) (before : List Bool) where
     where
       first : (a : ℕ) → (marked before a || eqb atom a) ≡ true → marked (set before atom true) a ≡ true
       first a h = mark_one before atom a inside ∙ h
+
+-- where a list is cut before one of its elements
+cut_before : {X : Type 0} (n : ℕ) (xs : List X) (x d : X) (ys : List X) → drop n xs ≡ x ∷ ys → (get_or xs n d ≡ x) × (ys ≡ drop (suc n) xs)
+cut_before zero [] x d ys h = cc
+cut_before (suc n) [] x d ys h = cc
+cut_before zero (z ∷ xs) x d ys h = (ap (λ l. get_or l 0 d) h, sym (ap (drop 1) h))
+cut_before (suc n) (z ∷ xs) x d ys h = cut_before n xs x d ys h
+
+pub drop_front : {X : Type 0} (n : ℕ) (xs : List X) (x d : X) (ys : List X) → drop n xs ≡ x ∷ ys → (get_or xs n d ≡ x) × (ys ≡ drop (n + 1) xs)
+drop_front n xs x d ys h =
+    let (here, left) = cut_before n xs x d ys h in
+    let e : suc n ≡ n + 1 = omega arith in
+    (here, left ∙ ap (λ k. drop k xs) e)

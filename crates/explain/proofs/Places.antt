@@ -1,8 +1,9 @@
 -- What a world may take at one place of a model, and the rows that are made of it.
-use Rattle.std.proofs.Common.{◌≡◌, ℕ, zero, suc, ◌<◌, ◌≤◌, Bool, true, false, cond, eqb, ◌≢◌, List, [], ◌∷◌, map, length, get_or, take, set, replicate, filter, sym, refl, ap, ◌∙◌, ⊎_elim, arith}
+use Rattle.std.proofs.Common.{◌≡◌, ℕ, ◌≤◌, Bool, not, cond, eqb, ◌≢◌, ◌⊎◌, inl, inr, List, [], ◌∷◌, map, length, get_or, set, replicate, filter, sym, refl, ap, ◌∙◌, ⊎_elim, arith}
 use Rattle.std.proofs.lemmas.List.{get_or_past}
-use Rattle.std.proofs.lemmas.Bool.{cases_lt, cond-true, cond-false, eq-eqb, ne_eqb}
-use Rattle.rows.specs.declared.row.Row as code
+use Rattle.std.proofs.lemmas.Bool.{cases_lt, cases_eq, cond-true, cond-false, eq-eqb, ne_eqb}
+use Rattle.std.proofs.lemmas.Bool.Decides.{nat_tests}
+use Rattle.std.proofs.lemmas.List.FromFn.{length-range_with_len}
 use Rattle.logic.specs.Atoms.{rows_at}
 use Rattle.logic.specs.Duals.{empty, others, contrary_at}
 use Rattle.logic.specs.Options.{Row, Options}
@@ -10,15 +11,11 @@ use Rattle.model.specs.declared.model.Model.{Model}
 use Rattle.model.specs.declared.suppositions.Suppositions.{Suppositions}
 use Rattle.model.specs.Meaning.{up_to, options_at}
 use Rattle.model.specs.Models.{alternatives, sizes}
-use Rattle.model.proofs.Tables.{sizes_count}
-use Rattle.explain.specs.Lists.{as_lists, lone, like}
+use Rattle.model.proofs.Tables.{nowhere, whole_at, sizes_at, sizes_count}
+use Rattle.explain.specs.Lists.{as_lists, lone, alone_rows}
 use Rattle.explain.specs.Options.{options}
-use Rattle.explain.proofs.Appends.{passing, length_up_to, take_set_next}
+use Rattle.explain.proofs.Ranges.{up_to_counting}
 use Rattle.explain.proofs.OptionLaws.{length_options, options_there, options_past}
-
--- a row that does not touch a place has no contrary there
-pub contrary_none : (os : Options) (r : Row) (place : ℕ) → get_or r place 0 ≡ 0 → contrary_at os r place ≡ []
-contrary_none os r place h = cond-true _ _ _ (eq-eqb (get_or r place 0) 0 h)
 
 module _ (m : Model) (s : Suppositions) where
   pub options_length : length (options m s) ≡ 16
@@ -27,10 +24,6 @@ module _ (m : Model) (s : Suppositions) where
 
   pub empty_is : empty (options m s) ≡ replicate 16 0
   empty_is = ap (λ n. replicate n 0) options_length
-
-  -- a list that begins with the empty row
-  pub first_empty : (rows : List code.Row) (row : code.Row) → 0 < length rows → row.choices ≡ replicate 16 0 → as_lists (take 1 (set rows 0 row)) ≡ empty (options m s) ∷ []
-  first_empty rows row some is = ap as_lists (take_set_next 0 rows row some) ∙ ap (λ (r : Row). r ∷ []) (is ∙ sym empty_is)
 
   module _ (place : ℕ) (past : 16 ≤ place → get_or s.choices place 0 ≡ 0) where
     abbrev size : ℕ
@@ -58,47 +51,58 @@ module _ (m : Model) (s : Suppositions) where
     pub fixed_there : supposed ≢ 0 → get_or (options m s) place [] ≡ supposed ∷ []
     fixed_there some = there ∙ cond-false _ _ _ (ne_eqb supposed 0 some)
 
-    -- the choices contrary to a row at the place
-    module _ (r : Row) (h : get_or r place 0 ≢ 0) where
-      contrary_some : (o : List ℕ) → get_or (options m s) place [] ≡ o → contrary_at (options m s) r place ≡ map (lone place) (filter (like (get_or r place 0) true) o)
-      contrary_some o is =
-          cond-false _ _ _ (ne_eqb (get_or r place 0) 0 h)
-          ∙ ap (λ (e : Row). map (λ n. set e place n) (others (get_or (options m s) place []) (get_or r place 0))) empty_is
-          ∙ ap (λ ns. map (lone place) (others ns (get_or r place 0))) is
+    -- at most eight choices are declared
+    size_few : size ≤ 8
+    size_few = ⊎_elim
+        (λ l.
+        let whole = whole_at m.alternatives m.declared m.places m.few m.canonical place l in
+        let few : (get_or m.alternatives place nowhere).choices ≤ 8 = grind (arith, nat_tests) in
+        omega (arith, few, sizes_at m.alternatives m.declared m.places m.few m.canonical place l))
+        (λ l.
+        let count = sizes_count m.alternatives m.declared m.places m.few m.canonical in
+        let none : size ≡ 0 = get_or_past (sizes (alternatives m)) place 0 (omega (arith, count)) in
+        omega (arith, none))
+        (cases_lt place m.declared)
 
-      pub contrary_free : supposed ≡ 0 → contrary_at (options m s) r place ≡ passing (like (get_or r place 0) true) (lone place) size
-      contrary_free none = contrary_some (up_to size) (free_there none)
+    pub options_few : length (get_or (options m s) place []) ≤ 8
+    options_few = ⊎_elim
+        (λ none. omega (arith, size_few, ap length (free_there none ∙ up_to_counting size), length-range_with_len 1 size))
+        (λ some. omega (arith, ap length (fixed_there some)))
+        (cases_eq supposed 0)
 
-      pub contrary_fixed : supposed ≢ 0 → contrary_at (options m s) r place ≡ cond (like (get_or r place 0) true supposed) (lone place supposed ∷ []) []
-      contrary_fixed some = contrary_some (supposed ∷ []) (fixed_there some) ∙ go (like (get_or r place 0) true supposed)
-        where
-          go : (b : Bool) → map (lone place) (cond b (supposed ∷ []) []) ≡ cond b (lone place supposed ∷ []) []
-          go true = refl
-          go false = refl
+-- rows that make one choice alone
+pub alone_lists : (place : ℕ) (ns : List ℕ) → as_lists (alone_rows place ns) ≡ map (lone place) ns
+alone_lists place [] = refl
+alone_lists place (n ∷ ns) = ap (λ l. lone place n ∷ l) (alone_lists place ns)
 
-    -- the rows of a choice, where a world has several to take and where it has only one
-    module _ (p : ℕ → Bool) where
-      abbrev rows_there : List Row
-      rows_there = rows_at (options m s) place p (get_or (options m s) place [])
+-- the choices contrary to a row at a place, and the rows of a choice there, where os has options for sixteen places
+module _ (os : Options) (sixteen : length os ≡ 16) (place : ℕ) (o : List ℕ) (is : get_or os place [] ≡ o) where
+  empty_sixteen : empty os ≡ replicate 16 0
+  empty_sixteen = ap (λ n. replicate n 0) sixteen
 
-      several : (o : List ℕ) → 2 ≤ length o → rows_at (options m s) place p o ≡ map (lone place) (filter p o)
-      unfolding rows_at
-      several [] h = absurd (omega arith)
-      several (n ∷ []) h = absurd (omega arith)
-      several (n ∷ (k ∷ o)) h = ap (λ (e : Row). map (λ n. set e place n) (filter p (n ∷ (k ∷ o)))) empty_is
+  module _ (r : Row) where
+    pub contrary_none : get_or r place 0 ≡ 0 → contrary_at os r place ≡ []
+    contrary_none h = cond-true _ _ _ (eq-eqb (get_or r place 0) 0 h)
 
-      pub rows_several : supposed ≡ 0 → 2 ≤ size → rows_there ≡ passing p (lone place) size
-      rows_several none h = ap (rows_at (options m s) place p) (free_there none) ∙ several (up_to size) (omega (arith, length_up_to size))
+    pub contrary_some : get_or r place 0 ≢ 0 → contrary_at os r place ≡ as_lists (alone_rows place (filter (λ n. not (eqb n (get_or r place 0))) o))
+    contrary_some h =
+        cond-false _ _ _ (ne_eqb (get_or r place 0) 0 h)
+        ∙ ap (λ (e : Row). map (λ n. set e place n) (others (get_or os place []) (get_or r place 0))) empty_sixteen
+        ∙ ap (λ ns. map (lone place) (others ns (get_or r place 0))) is
+        ∙ sym (alone_lists place (filter (λ n. not (eqb n (get_or r place 0))) o))
 
-      pub rows_fixed : supposed ≢ 0 → rows_there ≡ cond (p supposed) (replicate 16 0 ∷ []) []
-      unfolding rows_at
-      rows_fixed some = ap (rows_at (options m s) place p) (fixed_there some) ∙ ap (λ (e : Row). cond (p supposed) (e ∷ []) []) empty_is
+  module _ (p : ℕ → Bool) where
+    several : (o : List ℕ) → 2 ≤ length o → rows_at os place p o ≡ map (lone place) (filter p o)
+    unfolding rows_at
+    several [] h = absurd (omega arith)
+    several (n ∷ []) h = absurd (omega arith)
+    several (n ∷ (k ∷ o)) h = ap (λ (e : Row). map (λ n. set e place n) (filter p (n ∷ (k ∷ o)))) empty_sixteen
 
-      pub rows_few : supposed ≡ 0 → size < 2 → rows_there ≡ cond (p size) (replicate 16 0 ∷ []) []
-      unfolding rows_at
-      rows_few none h = ap (rows_at (options m s) place p) (free_there none) ∙ go size h
-        where
-          go : (n : ℕ) → n < 2 → rows_at (options m s) place p (up_to n) ≡ cond (p n) (replicate 16 0 ∷ []) []
-          go zero h = ap (λ (e : Row). cond (p 0) (e ∷ []) []) empty_is
-          go (suc zero) h = ap (λ (e : Row). cond (p 1) (e ∷ []) []) empty_is
-          go (suc (suc n)) h = absurd (omega arith)
+    pub rows_several : 2 ≤ length o → as_lists (alone_rows place (filter p o)) ≡ rows_at os place p (get_or os place [])
+    rows_several h = alone_lists place (filter p o) ∙ sym (ap (rows_at os place p) is ∙ several o h)
+
+    -- where there is one, or none
+    pub rows_single : (last : ℕ) → (o ≡ last ∷ []) ⊎ ((o ≡ []) × (last ≡ 0)) → rows_at os place p (get_or os place []) ≡ cond (p last) (replicate 16 0 ∷ []) []
+    unfolding rows_at
+    rows_single last (inl one) = ap (rows_at os place p) (is ∙ one) ∙ ap (λ (e : Row). cond (p last) (e ∷ []) []) empty_sixteen
+    rows_single last (inr none) = ap (rows_at os place p) (is ∙ none.0) ∙ ap (λ n. cond (p n) (empty os ∷ []) []) (sym none.1) ∙ ap (λ (e : Row). cond (p last) (e ∷ []) []) empty_sixteen

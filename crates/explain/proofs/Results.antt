@@ -1,10 +1,13 @@
 -- What result lists hold.
-use Rattle.std.proofs.Common.{◌≡◌, ℕ, zero, suc, ◌-◌, ◌<◌, ◌≤◌, Bool, true, false, ◌&&◌, leb, List, ◌∷◌, ◌++◌, map, length, take, drop, replicate, IfOk, Some, None, Ok, Err, Option, Result, sym, refl, ap, ◌∙◌, arith}
+use Rattle.std.proofs.Common.{◌≡◌, ℕ, zero, suc, ◌<◌, ◌≤◌, Bool, true, false, ◌&&◌, leb, List, ◌∷◌, ◌++◌, map, length, take, drop, replicate, IfOk, Some, None, Ok, Err, Option, Result, sym, refl, ap, ◌∙◌, arith}
 use Rattle.std.proofs.lemmas.List.{map-append, length-map, drop-map, drop-replicate, take_at}
 use Rattle.std.proofs.lemmas.Bool.{and_parts, leb-true}
 use Rattle.std.proofs.lemmas.Bool.Decides.{nat_tests}
 use Rattle.rows.specs.declared.row.Row.{Row}
-use Rattle.logic.specs.Atoms.{Lists}
+use Rattle.logic.specs.Atoms.{Lists, lists_of, table}
+use Rattle.logic.specs.Options.{Options}
+use Rattle.logic.specs.Rules as logic_rules
+use Rattle.logic.specs.Rules.{Rule}
 use Rattle.logic.specs.Options as logic
 use Rattle.model.specs.declared.literal.Literal.{Literal}
 use Rattle.model.specs.declared.model.Model.{Model}
@@ -17,10 +20,11 @@ use Rattle.model.specs.Models.{alternatives, sizes, judged}
 use Rattle.model.specs.Refusals.{smaller}
 use Rattle.model.proofs.States.{smaller_none}
 use Rattle.explain.specs.declared.lists.Lengths.{Lengths}
-use Rattle.explain.specs.Explaining.{over, padded, counts, rows_of, worked_for, enough, explaining, ExplainedIn}
+use Rattle.explain.specs.Explaining.{over, padded, counts, rows_of, wanted, height, told_of, worked_for, enough, explaining, ExplainedIn}
 use Rattle.explain.specs.Lists.{as_lists}
 use Rattle.explain.specs.Options.{options}
 use Rattle.explain.proofs.Explains.{answers_explain}
+use Rattle.explain.proofs.Goals.{goal_lists}
 
 map_replicate : {X Y : Type 0} (f : X → Y) (n : ℕ) (x : X) → map f (replicate n x) ≡ replicate n (f x)
 map_replicate f zero x = refl
@@ -33,13 +37,15 @@ copied_over front list before rest rows same is past =
     ∙ ap (λ l. rows ++ l) (ap as_lists past ∙ sym (drop-map (λ (r : Row). r.choices) (length list) before) ∙ ap (λ n. drop n (as_lists before)) (sym (length-map list (λ (r : Row). r.choices)) ∙ ap length is))
 
 -- a list that was cleared, and what stands in it then
-pub cleared : (n : ℕ) (row : Row) (items : List Row) → row.choices ≡ replicate 16 0 → items ≡ replicate (n - 0) row → as_lists items ≡ replicate n (replicate 16 0)
-cleared n row items zeros is =
-    let z : n - 0 ≡ n = omega arith in
-    ap as_lists is ∙ map_replicate (λ (r : Row). r.choices) (n - 0) row ∙ ap (λ k. replicate k row.choices) z ∙ ap (replicate n) zeros
+pub cleared : (n : ℕ) (row : Row) (items : List Row) → row.choices ≡ replicate 16 0 → items ≡ replicate n row → as_lists items ≡ replicate n (replicate 16 0)
+cleared n row items zeros is = ap as_lists is ∙ map_replicate (λ (r : Row). r.choices) n row ∙ ap (replicate n) zeros
 
 pub over_cleared : (n : ℕ) (rows before : List logic.Row) → before ≡ replicate n (replicate 16 0) → over rows before ≡ padded n rows
 over_cleared n rows before is = ap (over rows) is ∙ ap (λ l. rows ++ l) (drop-replicate (length rows) n (replicate 16 0))
+
+-- what is worked for a goal, where the lists of the atoms that it depends on are the first of ts
+pub answered : (os : Options) (rules : List Rule) (goal : logic_rules.Literal) (ts : List Lists) (e : Lists) → table 64 os rules (wanted rules goal) (height goal) ≡ Some (take (height goal) ts) → e ≡ lists_of os ts goal → worked_for os rules goal ≡ Ok e
+answered os rules goal ts e p q = ap (told_of os rules goal) p ∙ ap Ok (sym (q ∙ goal_lists os ts goal))
 
 -- what judging a question answers
 abbrev pub passed : Option Refusal → Result (Unit {0}) Refusal

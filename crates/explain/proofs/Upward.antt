@@ -1,71 +1,40 @@
 -- One atom after another, from the lowest up.
-use Rattle.std.proofs.Common.{◌≡◌, ℕ, zero, suc, ◌+◌, ◌<◌, ◌≤◌, Bool, true, false, cond, List, [], ◌∷◌, ◌++◌, length, get_or, replicate, is_some, Some, None, Option, sym, refl, ap, ◌∙◌, subst, ⊎_elim, arith}
+use Rattle.std.proofs.Common.{◌≡◌, ℕ, zero, suc, ◌+◌, ◌<◌, ◌≤◌, Bool, true, false, cond, List, [], ◌∷◌, ◌++◌, map, length, get_or, take, set, replicate, is_some, Some, None, Option, sym, refl, ap, ◌∙◌, subst, ⊎_elim, arith}
 use Rattle.std.specs.Option.{option_map}
-use Rattle.std.proofs.lemmas.List.{length-append, get_or_past, get_or_push}
+use Rattle.std.proofs.lemmas.List.{take_more, take_more_set, take-map, map-set, length-map, get_or-set_other}
 use Rattle.std.proofs.lemmas.Bool.{cases_eq, cond-true, cond-false}
 use Rattle.rows.specs.Keeping.{and_then}
-use Rattle.rows.specs.declared.row.Row.{Row}
 use Rattle.logic.specs.Atoms.{Lists, nothing, worked, table}
 use Rattle.logic.specs.Options.{Options}
 use Rattle.logic.specs.Rules.{Rule}
-use Rattle.logic.proofs.Bases.{some_same, then_some, mapped_some}
 use Rattle.logic.proofs.Tables.{table_alike}
-use Rattle.explain.specs.declared.lists.Lengths.{Lengths}
+use Rattle.explain.specs.declared.lists.Lists as code
 use Rattle.explain.specs.Explaining.{too_wide}
-use Rattle.explain.specs.Tables.{unworked, Narrow, Stands, Tabled}
-use Rattle.explain.proofs.Works.{pushed}
+use Rattle.explain.specs.Lists.{lists_in}
 
--- nothing is worked at the start, whatever the table holds
-unworked_there : (n a : ℕ) → get_or (replicate n unworked) a unworked ≡ unworked
-unworked_there zero a = refl
-unworked_there (suc n) zero = refl
-unworked_there (suc n) (suc a) = unworked_there n a
-
-pub narrow_none : Narrow (replicate 25 unworked)
-narrow_none a = subst (λ (m : Lengths). (m.own ≤ 64) × (m.negated ≤ 64)) (sym (unworked_there 25 a)) (omega arith, omega arith)
-
-pub tabled_none : (rows : List Row) → Tabled rows (replicate 25 unworked) []
-tabled_none rows = record { few = omega arith; each = λ a l. subst (λ (m : Lengths). Stands rows m a nothing) (sym (unworked_there 25 a)) (record { own = refl; negated = refl }) }
-
--- an atom that is not wanted has no lists
-pub tabled_pass : (rows : List Row) (lengths : List Lengths) (t : List Lists) → length t < 25 → Tabled rows lengths t → Tabled rows lengths (t ++ (nothing ∷ []))
-tabled_pass rows lengths t l tabled = record {
-  few = omega (arith, length-append t (nothing ∷ []));
-  each = λ a h. subst (Stands rows (get_or lengths a unworked) a) (sym (same a)) (tabled.each a h);
-}
-  where
-    same : (a : ℕ) → get_or (t ++ (nothing ∷ [])) a nothing ≡ get_or t a nothing
-    same a = ⊎_elim
-        (λ (is : a ≡ length t). ap (λ k. get_or (t ++ (nothing ∷ [])) k nothing) is ∙ get_or_push t nothing nothing (length t) refl ∙ sym (ap (λ k. get_or t k nothing) is ∙ get_or_past t (length t) nothing (omega arith)))
-        (λ other. pushed t nothing a other)
-        (cases_eq a (length t))
+none_there : (n : ℕ) (l : code.Lists) → lists_in l ≡ nothing → (a : ℕ) → get_or (map lists_in (replicate n l)) a nothing ≡ nothing
+none_there zero l none a = refl
+none_there (suc n) l none zero = none
+none_there (suc n) l none (suc a) = none_there n l none a
 
 module _ (os : Options) (rules : List Rule) (wanted : ℕ → Bool) where
   abbrev upto : ℕ → Option (List Lists)
   upto n = table 64 os rules wanted n
-
-  pub table_length : (n : ℕ) (t : List Lists) → upto n ≡ Some t → length t ≡ n
-  unfolding table
-  table_length zero t h = ap length (sym (some_same h))
-  table_length (suc n) t h =
-      let (before, p, q) = then_some (upto n) _ t h in
-      let (e, r, s) = mapped_some (λ (e : Lists). before ++ (e ∷ [])) (cond (wanted n) (worked 64 os rules before n) (Some nothing)) t q in
-      ap length (sym s) ∙ omega (arith, length-append before (e ∷ []), table_length n before p)
 
   module _ (n : ℕ) (t : List Lists) (is : upto n ≡ Some t) where
     next : upto (n + 1) ≡ option_map (λ e. t ++ (e ∷ [])) (cond (wanted n) (worked 64 os rules t n) (Some nothing))
     unfolding table
     next = let z : n + 1 ≡ suc n = omega arith in ap upto z ∙ ap (λ o. and_then o (λ t. option_map (λ e. t ++ (e ∷ [])) (cond (wanted n) (worked 64 os rules t n) (Some nothing)))) is
 
-    pub table_work : (e : Lists) → wanted n ≡ true → worked 64 os rules t n ≡ Some e → upto (n + 1) ≡ Some (t ++ (e ∷ []))
+    table_work : (e : Lists) → wanted n ≡ true → worked 64 os rules t n ≡ Some e → upto (n + 1) ≡ Some (t ++ (e ∷ []))
     table_work e w p = next ∙ ap (option_map (λ e. t ++ (e ∷ []))) (cond-true _ _ _ w ∙ p)
 
-    pub table_pass : wanted n ≡ false → upto (n + 1) ≡ Some (t ++ (nothing ∷ []))
+    table_pass : wanted n ≡ false → upto (n + 1) ≡ Some (t ++ (nothing ∷ []))
     table_pass w = next ∙ ap (option_map (λ e. t ++ (e ∷ []))) (cond-false _ _ _ w)
 
     -- where one atom's list is too long, so is the table from there on, and that atom is told
     module _ (w : wanted n ≡ true) (wide : worked 64 os rules t n ≡ None) where
-      pub table_stops : (k : ℕ) → n < k → (upto k ≡ None) × (n ≡ too_wide os rules wanted k)
+      table_stops : (k : ℕ) → n < k → (upto k ≡ None) × (n ≡ too_wide os rules wanted k)
       unfolding table too_wide
       table_stops zero l = absurd (omega arith)
       table_stops (suc k) l = ⊎_elim
@@ -79,6 +48,44 @@ module _ (os : Options) (rules : List Rule) (wanted : ℕ → Bool) where
             q ∙ sym (ap (λ o. cond (is_some o) k (too_wide os rules wanted k)) p),
           ))
           (cases_eq k n)
+
+  -- the lists of the atoms below n are the first n of ls, and past them there are none
+  pub record Upto (n : ℕ) (ls : List Lists) : Type 0 where
+    pub below : upto n ≡ Some (take n ls)
+    pub above : (a : ℕ) → n ≤ a → get_or ls a nothing ≡ nothing
+
+  -- at the start there are none at all
+  pub upto_none : (n : ℕ) (l : code.Lists) → lists_in l ≡ nothing → Upto 0 (map lists_in (replicate n l))
+  unfolding table
+  upto_none n l none = record { below = refl; above = λ a _. none_there n l none a }
+
+  module _ (n : ℕ) (lists : List code.Lists) (low : n < length lists) (u : Upto n (map lists_in lists)) where
+    abbrev ls : List Lists
+    ls = map lists_in lists
+
+    size : n < length ls
+    size = omega (arith, low, length-map lists lists_in)
+
+    -- the lists of a wanted atom are written to its place
+    pub upto_work : (l : code.Lists) → wanted n ≡ true → Some (lists_in l) ≡ worked 64 os rules (map lists_in (take n lists)) n → Upto (n + 1) (map lists_in (set lists n l))
+    upto_work l w p =
+        let e : Lists = lists_in l in
+        let is = sym (p ∙ ap (λ t. worked 64 os rules t n) (sym (take-map lists_in n lists))) in
+        subst (Upto (n + 1)) (sym (map-set lists_in lists n l)) (record {
+          below = table_work n (take n ls) u.below e w is ∙ ap Some (sym (take_more_set ls n e size));
+          above = λ a h. get_or-set_other ls n a e nothing (omega arith) ∙ u.above a (omega arith);
+        })
+
+    -- nothing stands at that of another
+    pub upto_pass : wanted n ≡ false → Upto (n + 1) ls
+    upto_pass w = record {
+      below = table_pass n (take n ls) u.below w ∙ ap (λ e. Some (take n ls ++ (e ∷ []))) (sym (u.above n (omega arith))) ∙ ap Some (sym (take_more ls n nothing size));
+      above = λ a h. u.above a (omega arith);
+    }
+
+    -- where a list of a wanted atom is too long, so is the table from there on, and that atom is told
+    pub upto_stops : wanted n ≡ true → None ≡ worked 64 os rules (map lists_in (take n lists)) n → (k : ℕ) → n < k → (upto k ≡ None) × (n ≡ too_wide os rules wanted k)
+    upto_stops w p k h = table_stops n (take n ls) u.below w (sym (p ∙ ap (λ t. worked 64 os rules t n) (sym (take-map lists_in n lists)))) k h
 
   -- a table depends only on which atoms are wanted
   pub wide_alike : (others : ℕ → Bool) (n : ℕ) → ((a : ℕ) → wanted a ≡ others a) → too_wide os rules wanted n ≡ too_wide os rules others n

@@ -1,5 +1,5 @@
 -- The question: the lists of a goal and of its negation, or why they are refused.
-use Rattle.std.specs.Prelude.{◌≡◌, ℕ, zero, suc, ◌-◌, Bool, false, cond, ◌&&◌, List, [], ◌++◌, length, drop, replicate, is_some, Some, None, Ok, Err, Option, Result, nat_le}
+use Rattle.std.specs.Prelude.{◌≡◌, ℕ, zero, suc, ◌-◌, Bool, false, cond, ◌&&◌, List, [], ◌++◌, length, take, drop, replicate, is_some, Some, None, Ok, Err, Option, Result, nat_le}
 use Rattle.logic.specs.Atoms.{Lists, lists_of, table}
 use Rattle.logic.specs.Explanations.{Explained}
 use Rattle.logic.specs.Needed.{needed}
@@ -15,11 +15,10 @@ use Rattle.model.specs.Judging.{judge_question}
 use Rattle.model.specs.Meaning as journal
 use Rattle.model.specs.Meaning.{meaning, held_rules, all_rules}
 use Rattle.model.specs.Models.{alternatives, sizes, judged}
-use Rattle.rows.specs.declared.row.Row as code_row
 use Rattle.explain.specs.declared.lists.Lengths.{Lengths}
-use Rattle.explain.specs.Lists.{as_lists}
+use Rattle.explain.specs.declared.work.Table.{Table}
 use Rattle.explain.specs.Options.{options}
-use Rattle.explain.specs.Tables.{Narrow, Tabled, side}
+use Rattle.explain.specs.Tables.{all_lists, side}
 
 -- the atoms that a goal depends on: none where it is a choice
 abbrev pub wanted : List Rule → Literal → ℕ → Bool
@@ -40,15 +39,10 @@ unfoldable pub too_wide : Options → List Rule → (ℕ → Bool) → ℕ → �
 too_wide os rules wanted zero = 0
 too_wide os rules wanted (suc n) = cond (is_some (table 64 os rules wanted n)) n (too_wide os rules wanted n)
 
--- what an answer with lengths says: the lists of the atoms below n stand in a table, or an atom's list was too long
-abbrev pub WorkedUp : Result (List Lengths) ℕ → Options → List Rule → (ℕ → Bool) → ℕ → List code_row.Row → Type 0
-WorkedUp (Ok lengths) os rules wanted n rows = (t : List Lists) × (table 64 os rules wanted n ≡ Some t) × Tabled rows lengths t × Narrow lengths
-WorkedUp (Err a) os rules wanted n rows = (table 64 os rules wanted n ≡ None) × (a ≡ too_wide os rules wanted n)
-
--- the same for the atoms that a goal depends on, with the refusal
-abbrev pub GoalWorked : Result (List Lengths) Refusal → Options → List Rule → Literal → List code_row.Row → Type 0
-GoalWorked (Ok lengths) os rules goal rows = (t : List Lists) × (table 64 os rules (wanted rules goal) (height goal) ≡ Some t) × Tabled rows lengths t × Narrow lengths
-GoalWorked (Err f) os rules goal rows = (table 64 os rules (wanted rules goal) (height goal) ≡ None) × (f ≡ TooManyRows (too_wide os rules (wanted rules goal) (height goal)))
+-- what an answer with a table says: the lists of the atoms below n stand there, or an atom's list was too long
+abbrev pub WorkedUp : Result Table Refusal → Options → List Rule → (ℕ → Bool) → ℕ → Type 0
+WorkedUp (Ok t) os rules wanted n = table 64 os rules wanted n ≡ Some (take n (all_lists t))
+WorkedUp (Err f) os rules wanted n = (table 64 os rules wanted n ≡ None) × (f ≡ TooManyRows (too_wide os rules wanted n))
 
 -- the lists of a goal, where those of the atoms that it depends on are worked or refused
 abbrev pub told_of : Options → List Rule → Literal → Option (List Lists) → Result Lists Refusal
@@ -83,11 +77,6 @@ over rows before = rows ++ drop (length rows) before
 -- rows, and empty rows after them, n in all
 abbrev pub padded : ℕ → List Row → List Row
 padded n rows = rows ++ replicate (n - length rows) (replicate 16 0)
-
--- rows were written to the front of a slice, and are so many
-pub record Copied (rows : List Row) (before after : List code_row.Row) (n : ℕ) : Type 0 where
-  pub count : n ≡ length rows
-  pub front : as_lists after ≡ over rows (as_lists before)
 
 abbrev pub negation : Literal → Literal
 negation (is_true a) = is_false a

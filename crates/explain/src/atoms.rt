@@ -1,169 +1,111 @@
-ghost use Rattle.std.specs.Prelude.{◌≡◌, ◌-◌, ◌≤◌, List, [], ◌∷◌, map, length, take, IfOk, slice_index_or};
-ghost use Rattle.rows.specs.Keeping.{and_then, shown};
-ghost use Rattle.logic.specs.Atoms.{Lists, nothing, choice_lists, lists_of, body_from, bodies_from};
+ghost use Rattle.std.specs.Prelude.{◌≡◌, ◌-◌, [], ◌∷◌, map, IsOkAnd, slice_index_or};
+ghost use Rattle.rows.specs.Holding.{listed, room};
+ghost use Rattle.rows.specs.Keeping.{and_then, told};
+ghost use Rattle.logic.specs.Atoms.{nothing, lists_of, body_from, bodies_from};
 ghost use Rattle.logic.specs.Duals.{empty, put_rows};
 ghost use Rattle.logic.specs.Rules.{rules_for};
 ghost use Rattle.model.specs.Meaning.{meaning, held_rules};
-ghost use Rattle.explain.specs.Lists.{as_lists};
-ghost use Rattle.explain.specs.Options.{options};
-ghost use Rattle.explain.specs.Tables.{side, Narrow, Tabled};
+ghost use Rattle.explain.specs.Conjunctions.{rows_in};
+ghost use Rattle.explain.specs.Lists.{as_lists, lists_in, told_rows};
+ghost use Rattle.explain.specs.Options.{options_of};
+ghost use Rattle.explain.specs.Tables.{lower_lists};
 
-use crate::Lengths;
-use crate::choices::write_choice;
-use crate::duals::conjoin;
-use model::{Literal, Model, Suppositions};
-use rows::{Full, Row, put_each};
-
-/// The most rows of a list.
-pub(crate) const ROWS: usize = 64;
+use crate::Board;
+use crate::choices::{CONTRARIES, choice_lists};
+use crate::duals::{Conjunction, Scratch};
+use crate::lists::{Lists, ROWS};
+use model::{Kind, Literal};
+use rows::{Antichain, Full, Row};
 
 /// One more than the highest atom.
 pub(crate) const ATOMS: usize = 25;
 
-/// What is known while an atom is worked: the model, what is supposed, and the lists of the lower atoms.
+/// What is known while an atom is worked: the board, and the lists of the lower atoms, from atom 0 on.
 #[derive(Clone, Copy)]
 pub(crate) struct Known<'a> {
-    pub model: &'a Model,
-    pub suppositions: &'a Suppositions,
-    pub table: &'a [Row],
-    pub lengths: &'a [Lengths; ATOMS],
+    pub board: Board<'a>,
+    pub lower: &'a [Lists<'a>],
 }
 
-/// The list of an atom, or that of its negation.
-fn atom_list<'a>(known: Known<'a>, atom: u8, negated: bool) -> &'a [Row]
-    requires room { 3200 ≤ length known.table.now }
-    requires narrow { Narrow known.lengths.now }
-    ensures defined { (t : List Lists) → Tabled known.entry.table.now known.entry.lengths.now t → as_lists result.now ≡ side negated (slice_index_or t atom nothing) }
-    ensures few { length result.now ≤ 64 }
-{
-    let at = atom as usize;
-    if at >= ATOMS {
-        return &known.table[0..0];
+impl<'a> Known<'a> {
+    /// The lists of an atom: no rows where it is not a lower one.
+    fn atom(self, atom: u8) -> Lists<'a>
+        ensures { lists_in result ≡ slice_index_or (lower_lists self.entry) atom nothing }
+    {
+        self.lower
+            .get(atom as usize)
+            .copied()
+            .unwrap_or(Lists::nothing())
     }
-    let start = 2 * ROWS * at;
-    if negated {
-        &known.table[start + ROWS..start + ROWS + known.lengths[at].negated]
-    } else {
-        &known.table[start..start + known.lengths[at].own]
-    }
-}
 
-/// The rows of a choice, or of its negation, written to `scratch`.
-fn choice_list<'a>(
-    known: Known<'_>,
-    literal: &Literal,
-    negated: bool,
-    scratch: &'a mut [Row],
-) -> &'a [Row]
-    requires { 8 ≤ length scratch.old }
-    ensures defined { as_lists result.now ≡ side negated (choice_lists (options known.entry.model.now known.entry.suppositions.now) (literal.now.first - 1) literal.now.second) }
-    ensures few { length result.now ≤ 64 }
-{
-    let place = literal.first.saturating_sub(1) as usize;
-    let count = write_choice(
-        known.model,
-        known.suppositions,
-        place,
-        literal.second,
-        negated,
-        scratch,
-    );
-    &scratch[0..count]
-}
-
-/// The list of a literal, or that of its negation. That of a choice is written to `scratch`.
-pub(crate) fn literal_list<'a>(
-    known: Known<'a>,
-    literal: &Literal,
-    negated: bool,
-    scratch: &'a mut [Row],
-) -> &'a [Row]
-    requires room { 3200 ≤ length known.table.now }
-    requires narrow { Narrow known.lengths.now }
-    requires scratch { 8 ≤ length scratch.old }
-    ensures defined { (t : List Lists) → Tabled known.entry.table.now known.entry.lengths.now t → as_lists result.now ≡ side negated (lists_of (options known.entry.model.now known.entry.suppositions.now) t (meaning literal.now)) }
-    ensures few { length result.now ≤ 64 }
-{
-    match literal.kind {
-        0 => atom_list(known, literal.first, negated),
-        1 => atom_list(known, literal.first, !negated),
-        2 => choice_list(known, literal, negated, scratch),
-        _ => choice_list(known, literal, !negated, scratch),
+    /// The lists of a literal. Those of a choice are written to `scratch`.
+    pub fn literal(
+        self,
+        literal: &Literal,
+        scratch: &'a mut [Row; CONTRARIES],
+    ) -> Result<Lists<'a>, Full>
+        ensures { IsOkAnd result (λ lists. lists_in lists ≡ lists_of (options_of self.entry.board) (lower_lists self.entry) (meaning literal.now)) }
+    {
+        let place = literal.first.saturating_sub(1) as usize;
+        match literal.kind() {
+            Some(Kind::Atom) => Ok(self.atom(literal.first)),
+            Some(Kind::NotAtom) => Ok(self.atom(literal.first).exchanged()),
+            Some(Kind::Choice) => choice_lists(self.board, place, literal.second, scratch),
+            _ => Ok(choice_lists(self.board, place, literal.second, scratch)?.exchanged()),
+        }
     }
 }
 
-/// Writes the rows of a body to the front of `rows`, and says how many they are: the empty row, conjoined with the list of
-/// each literal in turn.
-fn write_body(
+/// Conjoins the lists of the literals of a body.
+fn conjoin_body(
     known: Known<'_>,
     body: &[Literal],
-    rows: &mut [Row],
-    spare: &mut [Row],
-    scratch: &mut [Row],
-) -> Result<usize, Full>
-    requires room { 3200 ≤ length known.table.now }
-    requires narrow { Narrow known.lengths.now }
-    requires rows { length rows.old ≡ 64 }
-    requires spare { length spare.old ≡ 64 }
-    requires scratch { 8 ≤ length scratch.old }
-    ensures defined { (t : List Lists) → Tabled known.entry.table.now known.entry.lengths.now t → shown result (as_lists rows.new) ≡ body_from 64 (options known.entry.model.now known.entry.suppositions.now) t (empty (options known.entry.model.now known.entry.suppositions.now) ∷ []) (map meaning body.now) }
-    ensures fits { IfOk result (λ n. n ≤ 64) }
+    rows: &mut Conjunction<'_>,
+    spare: &mut [Row; ROWS],
+    scratch: &mut [Row; CONTRARIES],
+) -> Result<(), Full>
+    ensures { told result (rows_in rows.new) ≡ body_from 64 (options_of known.entry.board) (lower_lists known.entry) (rows_in rows.old) (map meaning body.now) }
 {
-    rows[0] = Row::empty();
-    let mut held = 1;
     for literal in body {
-        let list = literal_list(known, literal, false, scratch);
-        held = conjoin(rows, held, list, spare)?;
+        let lists = known.literal(literal, scratch)?;
+        rows.and(lists.own, spare)?;
     }
-    Ok(held)
+    Ok(())
 }
 
-/// Puts the rows of one more body to the first `held` of `bodies`, and says how many are held then.
+/// Puts the rows of one more body, the lists of its literals conjoined, to those of others.
 fn put_body(
     known: Known<'_>,
     body: &[Literal],
-    bodies: &mut [Row],
-    held: usize,
-    rows: &mut [Row],
-    spare: &mut [Row],
-    scratch: &mut [Row],
-) -> Result<usize, Full>
-    requires room { 3200 ≤ length known.table.now }
-    requires narrow { Narrow known.lengths.now }
-    requires bodies { length bodies.old ≡ 64 }
-    requires rows { length rows.old ≡ 64 }
-    requires spare { length spare.old ≡ 64 }
-    requires scratch { 8 ≤ length scratch.old }
-    ensures defined { (t : List Lists) → Tabled known.entry.table.now known.entry.lengths.now t → shown result (as_lists bodies.new) ≡ and_then (body_from 64 (options known.entry.model.now known.entry.suppositions.now) t (empty (options known.entry.model.now known.entry.suppositions.now) ∷ []) (map meaning body.now)) (put_rows 64 (as_lists (take held bodies.old))) }
-    ensures fits { IfOk result (λ n. n ≤ 64) }
+    bodies: &mut Antichain<'_, Row>,
+    scratch: &mut Scratch<'_>,
+) -> Result<(), Full>
+    ensures defined { told result (as_lists (listed bodies.new)) ≡ and_then (body_from 64 (options_of known.entry.board) (lower_lists known.entry) (empty (options_of known.entry.board) ∷ []) (map meaning body.now)) (put_rows (room bodies.old) (as_lists (listed bodies.old))) }
+    ensures room { room bodies.new ≡ room bodies.old }
+    ensures lent { bodies.new.items.ghost_name ≡ bodies.old.items.ghost_name }
 {
-    let count = write_body(known, body, rows, spare, scratch)?;
-    put_each(&rows[0..count], bodies, held)
+    let mut rows = Conjunction::new(scratch.body);
+    conjoin_body(known, body, &mut rows, scratch.spare, scratch.contraries)?;
+    for row in rows.into_rows() {
+        bodies.put(*row)?;
+    }
+    Ok(())
 }
 
-/// Puts the rows of the body of each rule for an atom to one list in the front of `bodies`, and says how many are held then.
-pub(crate) fn put_bodies(
+/// The rows of the bodies of all rules for an atom, put to one list in the front of `places`.
+pub(crate) fn rows_of_bodies<'a>(
     known: Known<'_>,
     atom: u8,
-    bodies: &mut [Row],
-    rows: &mut [Row],
-    spare: &mut [Row],
-    scratch: &mut [Row],
-) -> Result<usize, Full>
-    requires room { 3200 ≤ length known.table.now }
-    requires narrow { Narrow known.lengths.now }
-    requires bodies { length bodies.old ≡ 64 }
-    requires rows { length rows.old ≡ 64 }
-    requires spare { length spare.old ≡ 64 }
-    requires scratch { 8 ≤ length scratch.old }
-    ensures defined { (t : List Lists) → Tabled known.entry.table.now known.entry.lengths.now t → shown result (as_lists bodies.new) ≡ bodies_from 64 (options known.entry.model.now known.entry.suppositions.now) t [] (rules_for (held_rules known.entry.model.now) atom) }
-    ensures fits { IfOk result (λ n. n ≤ 64) }
+    places: &'a mut [Row; ROWS],
+    scratch: &mut Scratch<'_>,
+) -> Result<&'a [Row], Full>
+    ensures { told_rows result ≡ bodies_from 64 (options_of known.entry.board) (lower_lists known.entry) [] (rules_for (held_rules known.entry.board.model.now) atom) }
 {
-    let mut held = 0;
-    for rule in known.model.rules() {
+    let mut bodies = Antichain::new(places);
+    for rule in known.board.model.rules() {
         if rule.head() == atom {
-            held = put_body(known, rule.body(), bodies, held, rows, spare, scratch)?;
+            put_body(known, rule.body(), &mut bodies, scratch)?;
         }
     }
-    Ok(held)
+    Ok(bodies.into_held())
 }

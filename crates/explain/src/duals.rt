@@ -1,15 +1,69 @@
-ghost use Rattle.std.specs.Prelude.{◌≡◌, ◌≤◌, [], length, take, IfOk};
+ghost use Rattle.std.specs.Prelude.{◌≡◌, ◌≤◌, [], ◌∷◌, length, replicate, IfOk};
 ghost use Rattle.rows.specs.Holding.{listed, room};
-ghost use Rattle.rows.specs.Keeping.{shown, told};
-ghost use Rattle.logic.specs.Duals.{put_rows, unions, conjoined, duals};
-ghost use Rattle.explain.specs.Lists.{as_lists};
-ghost use Rattle.explain.specs.Options.{options};
+ghost use Rattle.rows.specs.Keeping.{told};
+ghost use Rattle.rows.specs.Lending as lending;
+ghost use Rattle.logic.specs.Duals.{put_rows, unions, duals};
+ghost use Rattle.explain.specs.Lists.{as_lists, told_rows};
+ghost use Rattle.explain.specs.Options.{options_of};
 
-use crate::choices::write_contraries;
-use model::{Model, Suppositions};
-use rows::{Antichain, Full, Row};
+use crate::Board;
+use crate::choices::{CONTRARIES, contraries};
+use crate::lists::ROWS;
+use rows::{Antichain, Full, Lent, Row};
+
+/// Rows that lists are worked in. What they hold before and afterwards does not matter.
+#[derive(Drop)]
+pub(crate) struct Scratch<'a> {
+    pub body: &'a mut [Row; ROWS],
+    pub spare: &'a mut [Row; ROWS],
+    pub contraries: &'a mut [Row; CONTRARIES],
+}
+
+/// A conjunction of lists: the rows that are held, in order.
+#[derive(Drop)]
+pub(crate) struct Conjunction<'a> {
+    rows: Lent<'a, Row>,
+    ghost few: { length (lending.items rows) ≤ 64 },
+    ghost room: { 64 ≤ lending.room rows },
+}
+
+impl<'a> Conjunction<'a> {
+    ghost use Rattle.logic.specs.Duals.{conjoined};
+    ghost use Rattle.explain.specs.Conjunctions.{rows_in};
+
+    /// The conjunction of no list, which is the empty row.
+    pub fn new(rows: &'a mut [Row; ROWS]) -> Self
+        ensures { rows_in result ≡ replicate 16 0 ∷ [] }
+    {
+        let mut rows = Lent::new(rows);
+        rows.push(Row::empty()).unwrap();
+        Conjunction { rows }
+    }
+
+    /// Conjoins one list more: every consistent union of a row that is held and one of `others`, those of the first row that is
+    /// held first. They are worked in `spare`.
+    pub fn and(&mut self, others: &[Row], spare: &mut [Row; ROWS]) -> Result<(), Full>
+        ensures { told result (rows_in self.new) ≡ conjoined 64 (rows_in self.old) (as_lists others.now) }
+    {
+        let mut next = Antichain::new(spare);
+        for row in self.rows.as_slice() {
+            put_unions(row, others, &mut next)?;
+        }
+        self.rows.clear();
+        self.rows.extend_from_slice(next.held())
+    }
+
+    /// The rows of the conjunction, in order.
+    pub fn into_rows(self) -> &'a [Row]
+        ensures rows { as_lists result.now ≡ rows_in self.entry }
+        ensures few { length result.now ≤ 64 }
+    {
+        self.rows.into_slice()
+    }
+}
 
 /// Puts the unions of a row with those of `others` that are compatible with it to a list.
+// That the list keeps its room and its slice is said in the words of `Antichain::put`, which are public.
 fn put_unions(row: &Row, others: &[Row], list: &mut Antichain<'_, Row>) -> Result<(), Full>
     ensures defined { told result (as_lists (listed list.new)) ≡ put_rows (room list.old) (as_lists (listed list.old)) (unions row.now.choices (as_lists others.now)) }
     ensures room { room list.new ≡ room list.old }
@@ -23,56 +77,20 @@ fn put_unions(row: &Row, others: &[Row], list: &mut Antichain<'_, Row>) -> Resul
     Ok(())
 }
 
-/// Puts every consistent union of one of `rows` and one of `others` to an empty list in the front of `into`, those of the
-/// first of `rows` first, and says how many are held then.
-fn put_conjoined(rows: &[Row], others: &[Row], into: &mut [Row]) -> Result<usize, Full>
-    ensures defined { shown result (as_lists into.new) ≡ conjoined (length into.old) (as_lists rows.now) (as_lists others.now) }
-    ensures fits { IfOk result (λ n. n ≤ length into.old) }
-{
-    let mut list = Antichain::new(into);
-    for row in rows {
-        put_unions(row, others, &mut list)?;
-    }
-    Ok(list.len())
-}
-
-/// Conjoins the first `held` of `rows` with `others`, in place, and says how many rows there are then.
-pub(crate) fn conjoin(
-    rows: &mut [Row],
-    held: usize,
-    others: &[Row],
-    spare: &mut [Row],
-) -> Result<usize, Full>
-    requires within { held ≤ length rows.old }
-    requires alike { length spare.old ≡ length rows.old }
-    ensures defined { shown result (as_lists rows.new) ≡ conjoined (length rows.old) (as_lists (take held rows.old)) (as_lists others.now) }
-    ensures fits { IfOk result (λ n. n ≤ length rows.old) }
-{
-    let count = put_conjoined(&rows[0..held], others, spare)?;
-    rows[0..count].copy_from_slice(&spare[0..count]);
-    Ok(count)
-}
-
-/// Writes the duals of `members` to the front of `rows`, and says how many they are.
-pub(crate) fn write_duals(
-    model: &Model,
-    suppositions: &Suppositions,
+/// The duals of `members`, in the front of `rows`.
+pub(crate) fn duals<'a>(
+    board: Board<'_>,
     members: &[Row],
-    rows: &mut [Row],
-    spare: &mut [Row],
-    contraries: &mut [Row],
-) -> Result<usize, Full>
-    requires rows { length rows.old ≡ 64 }
-    requires spare { length spare.old ≡ 64 }
-    requires room { 128 ≤ length contraries.old }
-    ensures defined { shown result (as_lists rows.new) ≡ duals 64 (options model.now suppositions.now) (as_lists members.now) }
-    ensures fits { IfOk result (λ n. n ≤ 64) }
+    rows: &'a mut [Row; ROWS],
+    scratch: &mut Scratch<'_>,
+) -> Result<&'a [Row], Full>
+    ensures defined { told_rows result ≡ duals 64 (options_of board.entry) (as_lists members.now) }
+    ensures few { IfOk result (λ rows. length rows.now ≤ 64) }
 {
-    rows[0] = Row::empty();
-    let mut held = 1;
+    let mut duals = Conjunction::new(rows);
     for member in members {
-        let count = write_contraries(model, suppositions, member, contraries);
-        held = conjoin(rows, held, &contraries[0..count], spare)?;
+        let others = contraries(board, member, scratch.contraries)?;
+        duals.and(others, scratch.spare)?;
     }
-    Ok(held)
+    Ok(duals.into_rows())
 }

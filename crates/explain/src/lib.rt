@@ -2,6 +2,7 @@
 #![tactic(auto)]
 
 mod atoms;
+mod board;
 mod choices;
 mod duals;
 mod lists;
@@ -10,6 +11,7 @@ mod question;
 mod theorems;
 mod work;
 
+pub use board::Board;
 pub use lists::Lengths;
 pub use question::{WORKSPACE, explain};
 pub use theorems::{answers_are_minimal_explanations, boards_come_out};

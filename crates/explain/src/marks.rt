@@ -1,18 +1,32 @@
-ghost use Rattle.std.specs.Prelude.{◌≡◌, ℕ, ◌<◌, Bool, false, ◌||◌, map, nat_eq};
+ghost use Rattle.std.specs.Prelude.{◌≡◌, ℕ, ◌<◌, ◌≤◌, Bool, false, ◌||◌, map, nat_eq, MatchOption};
 ghost use Rattle.logic.specs.Needed.{uses, used};
 ghost use Rattle.model.specs.Meaning.{meaning, held_rule};
 ghost use Rattle.explain.specs.Marks.{marked, Marked};
 
 use crate::atoms::ATOMS;
-use model::{Literal, Rule};
+use model::{Kind, Literal, Rule};
+
+/// The atom that a literal is of, if it is of one.
+pub(crate) fn atom_of(literal: &Literal) -> Option<u8>
+    ensures { MatchOption result (1 < literal.now.kind) (λ a. (literal.now.kind ≤ 1) × (a ≡ literal.now.first)) }
+{
+    match literal.kind() {
+        Some(Kind::Atom | Kind::NotAtom) => Some(literal.first),
+        _ => None,
+    }
+}
 
 /// Marks the atoms of a body.
 fn mark_body(body: &[Literal], marks: &mut [bool; ATOMS])
     ensures { (a : ℕ) → a < 25 → marked marks.new a ≡ (marked marks.old a || uses (map meaning body.now) a) }
 {
     for literal in body {
-        let at = literal.first as usize;
-        if literal.kind <= 1 && at < ATOMS {
+        let Some(atom) = atom_of(literal) else {
+            continue;
+        };
+        // Not by `get_mut`: what is written through it into an array does not come out in the proof.
+        let at = atom as usize;
+        if at < ATOMS {
             marks[at] = true;
         }
     }
@@ -42,8 +56,8 @@ pub(crate) fn mark(rules: &[Rule], atom: u8, marks: &mut [bool; ATOMS])
     }
     marks[atom as usize] = true;
     let used = atoms_used(rules, atom);
-    for lower in 0..atom {
-        if used[lower as usize] {
+    for (lower, is_used) in (0..atom).zip(&used) {
+        if *is_used {
             mark(rules, lower, marks);
         }
     }

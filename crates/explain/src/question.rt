@@ -1,21 +1,19 @@
-ghost use Rattle.std.specs.Prelude.{◌≡◌, ◌<◌, ◌≤◌, true, false, List, length, take, is_ok, IfOk};
-ghost use Rattle.logic.specs.Atoms.{Lists, lists_of};
+ghost use Rattle.std.specs.Prelude.{◌≡◌, ◌<◌, ◌≤◌, true, false, length, take, is_ok, IfOk};
 ghost use Rattle.model.specs.Journal.{Journal, Agrees, feed, asks};
 ghost use Rattle.model.specs.Meaning.{meaning, held_rules};
-ghost use Rattle.explain.specs.Explaining.{GoalWorked, worked_for, explaining, counts, rows_of, over, padded, enough, Copied, ExplainedIn};
+ghost use Rattle.explain.specs.Explaining.{WorkedUp, wanted, height, worked_for, explaining, counts, rows_of, over, padded, enough, ExplainedIn};
 ghost use Rattle.explain.specs.Lists.{as_lists};
-ghost use Rattle.explain.specs.Options.{options};
-ghost use Rattle.explain.specs.Tables.{Narrow, Tabled, side};
+ghost use Rattle.explain.specs.Options.{options_of};
 
-use crate::Lengths;
-use crate::atoms::{ATOMS, Known, ROWS, literal_list};
-use crate::marks::mark;
-use crate::work::work_up;
+use crate::atoms::{ATOMS, Known};
+use crate::choices::CONTRARIES;
+use crate::duals::Scratch;
+use crate::lists::{Lists, ROWS};
+use crate::marks::{atom_of, mark};
+use crate::work::{Table, work_up};
+use crate::{Board, Lengths};
 use model::{Literal, Model, Refusal, Suppositions};
-use rows::{Row, fill_from};
-
-/// How many rows of the workspace hold the lists of the atoms.
-const TABLE: usize = 2 * ROWS * ATOMS;
+use rows::Row;
 
 /// How many rows of workspace a question is lent.
 pub const WORKSPACE: usize = 4096;
@@ -27,55 +25,31 @@ fn suffices(own: usize, negated: usize, workspace: usize) -> bool
     own >= ROWS && negated >= ROWS && workspace >= WORKSPACE
 }
 
-/// Works the atoms that a goal depends on, and says how long their lists are.
+/// Works the atoms that a goal depends on.
 fn work_for<'a>(
-    model: &'a Model,
-    suppositions: &'a Suppositions,
+    board: Board<'_>,
     goal: &Literal,
-    table: &mut [Row],
-    scratch: &mut [Row],
-) -> Result<[Lengths; ATOMS], Refusal>
-    requires room { 3200 ≤ length table.old }
+    places: &'a mut [[Row; ROWS]],
+    scratch: &mut Scratch<'_>,
+) -> Result<Table<'a>, Refusal>
     requires goal { goal.now.kind ≤ 1 → goal.now.first < 25 }
-    requires scratch { 384 ≤ length scratch.old }
-    ensures { GoalWorked result (options model.now suppositions.now) (held_rules model.now) (meaning goal.now) table.new }
+    requires room { 50 ≤ length places.old }
+    ensures { WorkedUp result (options_of board.entry) (held_rules board.entry.model.now) (wanted (held_rules board.entry.model.now) (meaning goal.now)) (height (meaning goal.now)) }
 {
-    if goal.kind > 1 {
-        return Ok([Lengths { own: 0, negated: 0 }; ATOMS]);
-    }
+    let Some(atom) = atom_of(goal) else {
+        return Ok(Table {
+            lists: [Lists::nothing(); ATOMS],
+        });
+    };
     let mut marks = [false; ATOMS];
-    mark(model.rules(), goal.first, &mut marks);
-    match work_up(model, suppositions, &marks, goal.first, table, scratch) {
-        Ok(lengths) => Ok(lengths),
-        Err(atom) => Err(Refusal::TooManyRows { atom }),
-    }
-}
-
-/// Copies the list of a goal, or that of its negation, to the front of `into`, and says how many rows it has.
-fn copy_list(
-    known: Known<'_>,
-    goal: &Literal,
-    negated: bool,
-    into: &mut [Row],
-    scratch: &mut [Row],
-) -> usize
-    requires room { 3200 ≤ length known.table.now }
-    requires narrow { Narrow known.lengths.now }
-    requires into { 64 ≤ length into.old }
-    requires scratch { 8 ≤ length scratch.old }
-    ensures { (t : List Lists) → Tabled known.entry.table.now known.entry.lengths.now t → Copied (side negated (lists_of (options known.entry.model.now known.entry.suppositions.now) t (meaning goal.now))) into.old into.new result }
-{
-    let list = literal_list(known, goal, negated, scratch);
-    let count = list.len();
-    into[0..count].copy_from_slice(list);
-    count
+    mark(board.model.rules(), atom, &mut marks);
+    work_up(board, &marks, atom, places, scratch)
 }
 
 /// Works the two lists of a goal and copies them to the fronts of `own` and `negated`, and says how many rows they have. Where
 /// a list is too long, `own` and `negated` stay.
-fn answer<'a>(
-    model: &'a Model,
-    suppositions: &'a Suppositions,
+fn answer(
+    board: Board<'_>,
     goal: &Literal,
     own: &mut [Row],
     negated: &mut [Row],
@@ -85,24 +59,33 @@ fn answer<'a>(
     requires own { 64 ≤ length own.old }
     requires negated { 64 ≤ length negated.old }
     requires workspace { 4096 ≤ length workspace.old }
-    ensures counts { result ≡ counts (worked_for (options model.now suppositions.now) (held_rules model.now) (meaning goal.now)) }
-    ensures own { as_lists own.new ≡ over (rows_of false (worked_for (options model.now suppositions.now) (held_rules model.now) (meaning goal.now))) (as_lists own.old) }
-    ensures negated { as_lists negated.new ≡ over (rows_of true (worked_for (options model.now suppositions.now) (held_rules model.now) (meaning goal.now))) (as_lists negated.old) }
+    ensures counts { result ≡ counts (worked_for (options_of board.entry) (held_rules board.entry.model.now) (meaning goal.now)) }
+    ensures own { as_lists own.new ≡ over (rows_of false (worked_for (options_of board.entry) (held_rules board.entry.model.now) (meaning goal.now))) (as_lists own.old) }
+    ensures negated { as_lists negated.new ≡ over (rows_of true (worked_for (options_of board.entry) (held_rules board.entry.model.now) (meaning goal.now))) (as_lists negated.old) }
 {
-    let (table, scratch) = workspace.split_at_mut(TABLE);
-    let lengths = work_for(model, suppositions, goal, table, scratch)?;
-    let known = Known {
-        model,
-        suppositions,
-        table,
-        lengths: &lengths,
+    let Some((contraries, rest)) = workspace.split_first_chunk_mut::<CONTRARIES>() else {
+        return Err(Refusal::ShortSpace);
     };
-    let affirmed = copy_list(known, goal, false, own, scratch);
-    let denied = copy_list(known, goal, true, negated, scratch);
-    Ok(Lengths {
-        own: affirmed,
-        negated: denied,
-    })
+    let (lists, _) = rest.as_chunks_mut::<ROWS>();
+    let [body, spare, places @ ..] = lists else {
+        return Err(Refusal::ShortSpace);
+    };
+    let mut scratch = Scratch {
+        body,
+        spare,
+        contraries,
+    };
+    let table = work_for(board, goal, places, &mut scratch)?;
+    let known = Known {
+        board,
+        lower: &table.lists,
+    };
+    let lists = known
+        .literal(goal, scratch.contraries)
+        .map_err(|_| Refusal::ShortSpace)?;
+    own[..lists.own.len()].copy_from_slice(lists.own);
+    negated[..lists.negated.len()].copy_from_slice(lists.negated);
+    Ok(lists.lengths())
 }
 
 /// Every minimal explanation of a goal, in the front of `own`, and every one of its negation, in the front of `negated`, in
@@ -123,9 +106,13 @@ pub fn explain(
     ensures explained { (j : Journal) → Agrees j model.now suppositions.now → IfOk result (λ n. ExplainedIn j goal (take n.own (as_lists own.new)) (take n.negated (as_lists negated.new))) }
     ensures journal { (j : Journal) → Agrees j model.now suppositions.now → Agrees (feed j (asks goal) (is_ok result)) model.now suppositions.now }
 {
-    fill_from(own, 0, Row::empty());
-    fill_from(negated, 0, Row::empty());
+    own.fill(Row::empty());
+    negated.fill(Row::empty());
     let enough = suffices(own.len(), negated.len(), workspace.len());
     model.judge_question(suppositions, &goal, enough)?;
-    answer(model, suppositions, &goal, own, negated, workspace)
+    let board = Board {
+        model,
+        suppositions,
+    };
+    answer(board, &goal, own, negated, workspace)
 }

@@ -1,11 +1,10 @@
 pub mod Below
 pub mod Costs
 pub mod Efforts
-pub mod Filling
+pub mod Pieces
 pub mod Raw
 pub mod Residues
 pub mod Totals
 pub mod ResiduesLemmas
 pub mod Belows
-pub mod Products
 pub mod CostsLemmas

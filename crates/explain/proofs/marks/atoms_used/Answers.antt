@@ -1,16 +1,13 @@
-use Rattle.std.proofs.Common.{◌||◌, eqb, List, map, sym, ap, ◌∙◌}
+use Rattle.std.proofs.Common.{◌||◌, List, map, sym, ap, ◌∙◌}
 use mathlib.Core.Bool.{or-false}
 use Rattle.std.proofs.lemmas.Bool.{eq-eqb, ne_eqb}
-use Rattle.logic.specs.Needed.{uses, used}
+use Rattle.logic.specs.Needed.{uses}
 use Rattle.model.specs.declared.literal.Literal.{Literal}
-use Rattle.model.specs.Meaning.{meaning, held_rule}
+use Rattle.model.specs.Meaning.{meaning}
 use Rattle.explain.specs.Marks.{marked}
-use Rattle.explain.proofs.Marking.{used_all, used_more, used_skip, unmarked}
+use Rattle.explain.proofs.Marking.{used_all, used_more, used_skip}
 use Rattle.explain.proofs.marks.atoms_used.Goals as goal
 use Rattle.explain.proofs.marks.atoms_used.Goals.{then-head-atom, else-head-atom}
-
-pub loop-rule-init : goal.loop-rule-init
-loop-rule-init c = λ a h. ap (λ b. b || used (map held_rule c.args.rules.now) (λ head. eqb head c.args.atom) a) (unmarked 25 a)
 
 pub loop-rule-preserved : goal.loop-rule-preserved
 loop-rule-preserved c =
