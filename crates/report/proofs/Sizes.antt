@@ -1,5 +1,5 @@
 -- How many bytes a line has.
-use Rattle.std.proofs.Common.{◌≡◌, ℕ, ◌+◌, ◌^◌, ◌<◌, ◌≤◌, length, decimal, refl, subst, arith}
+use Rattle.std.proofs.Common.{◌≡◌, ℕ, ◌+◌, ◌^◌, ◌<◌, ◌≤◌, length, decimal, subst, arith}
 use Rattle.std.proofs.lemmas.Fmt.{length-decimal-le}
 use Rattle.std.proofs.lemmas.List.{length-append}
 use Rattle.model.specs.declared.refusal.Refusal.{Refusal}
@@ -7,10 +7,8 @@ use Rattle.model.specs.declared.refusal.Refusal.TheVariants.{NumberOfChoices, No
 use Rattle.model.specs.Refusals.{number, place}
 use Rattle.weighing.specs.declared.counting.Counting.{Counting}
 use Rattle.weighing.specs.declared.effort.Effort.{Effort}
-use Rattle.weighing.specs.declared.effort.Effort.TheVariants.{Minutes, Never}
 use Rattle.weighing.specs.declared.weights.Weights.{Weights}
 use Rattle.weighing.specs.Efforts.{effort_text}
-use Rattle.weighing.proofs.Efforts.{Fitting}
 use Rattle.report.specs.declared.lines.Line.{Line}
 use Rattle.report.specs.declared.lines.Line.TheVariants.{Weighed, Refused}
 use Rattle.report.specs.Lines.{line_bytes, Small}
@@ -31,10 +29,6 @@ size_minutes n h = length-decimal-le 10 n (omega arith) (omega arith) (omega ari
 
 pub size_any : (n : ℕ) → n < 2 ^ 64 → size n ≤ 20
 size_any n h = length-decimal-le 20 n (omega arith) (omega arith) (omega arith)
-
-pub size_effort : (e : Effort) → Fitting e → length (effort_text e) ≤ 10
-size_effort (Minutes n) fits = size_minutes n (fits n refl)
-size_effort Never fits = omega arith
 
 numbered : (r : Refusal) → number r < 256
 numbered NumberOfChoices = omega arith
@@ -79,14 +73,3 @@ weighed_length atom own negated counting effort = simp length-append (omega arit
 
 pub refused_length : (atom : ℕ) (refusal : Refusal) → length (line_bytes (Refused atom refusal)) ≡ size atom + size (number refusal) + size (place refusal) + 11
 refused_length atom refusal = simp length-append (omega arith)
-
--- the numbers of a line fit their types
-abbrev pub Fit : Line → Type 0
-Fit (Weighed atom own negated counting effort) = (atom < 256) × (counting.goal.0 < 2 ^ 64) × (counting.against.0 < 2 ^ 64) × Fitting effort.goal × Fitting effort.against
-Fit (Refused atom refusal) = atom < 256
-
-pub line_short : (line : Line) → Small line → Fit line → length (line_bytes line) ≤ 75
-line_short (Weighed atom own negated counting effort) small fit =
-    let sizes = weighed_sizes {line = Weighed atom own negated counting effort} refl small fit.0 in
-    omega (arith, weighed_length atom own negated counting effort, size_any counting.goal.0 fit.1, size_any counting.against.0 fit.2, size_effort effort.goal fit.3, size_effort effort.against fit.4)
-line_short (Refused atom refusal) small fit = let sizes = refused_sizes {line = Refused atom refusal} refl small fit in omega (arith, refused_length atom refusal)

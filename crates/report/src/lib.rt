@@ -1,7 +1,6 @@
 //! The lines of a report, written into the caller's bytes.
 #![tactic(auto)]
 
-mod digits;
 mod lines;
 #[cfg(test)]
 mod tests;

@@ -1,13 +1,16 @@
-ghost use Rattle.std.specs.Prelude.{◌+◌, ◌≤◌, ◌∷◌, length, decimal};
+ghost use Rattle.std.specs.Prelude.{◌≡◌, ◌+◌, ◌≤◌, true, ◌∷◌, ◌++◌, map, length, decimal, is_ok};
+ghost use Rattle.rows.specs.Lending.{items, room, Grown};
 ghost use Rattle.weighing.specs.Efforts.{effort_text};
-ghost use Rattle.report.specs.Lines.{line_bytes, Small};
-ghost use Rattle.report.specs.Puts.{Put};
+ghost use Rattle.report.specs.Fields.{text};
+ghost use Rattle.report.specs.Lines.{line_bytes, spaced, Small};
 
-use crate::digits::write_number;
+use itoa::Buffer;
 use model::Refusal;
+use rows::{Full, Lent};
 use weighing::{Counting, Effort, Weights};
 
 /// What a report says of an atom.
+// Not the atom with a `Result`: neither case is handed on by `?`, both are printed.
 #[derive(Clone, Copy)]
 pub enum Line {
     /// How many rows explain the atom and how many its negation, and what speaks for it and against it.
@@ -25,12 +28,39 @@ pub enum Line {
     },
 }
 
-/// Writes a line at `at`, and says where it ends. It has at most 75 bytes.
-pub(crate) fn write_line(buffer: &mut [u8], at: usize, line: &Line) -> usize
-    requires room { at + 75 ≤ length buffer.old }
-    requires small { Small line.now }
+/// What stands in a line behind the atom, each behind a space.
+#[derive(Clone, Copy)]
+enum Field {
+    Number(u64),
+    Word(&'static [u8]),
+}
+
+impl From<Counting> for Field {
+    ghost from_gives = { λ c f. (text f ≡ decimal c.0) × (length (text f) ≤ 20) };
+
+    fn from(counting: Counting) -> Field {
+        let Counting(n) = counting;
+        Field::Number(n)
+    }
+}
+
+impl From<Effort> for Field {
+    ghost from_gives = { λ e f. (text f ≡ effort_text e) × (length (text f) ≤ 10) };
+
+    fn from(effort: Effort) -> Field {
+        match effort {
+            Effort::Minutes(minutes) => Field::Number(minutes as u64),
+            Effort::Never => Field::Word(b"never"),
+        }
+    }
+}
+
+/// Writes a line behind what the report holds. It has at most 75 bytes, and is refused only where they do not fit.
+pub(crate) fn write_line(report: &mut Lent<'_, u8>, line: &Line) -> Result<(), Full>
+    requires { Small line.now }
     ensures short { length (line_bytes line.now) ≤ 75 }
-    ensures put { Put buffer.old at (line_bytes line.now) buffer.new result }
+    ensures grown { Grown report.old report.new (line_bytes line.now) result }
+    ensures fits { length (items report.old) + 75 ≤ room report.old → is_ok result ≡ true }
 {
     match line {
         Line::Weighed {
@@ -40,52 +70,53 @@ pub(crate) fn write_line(buffer: &mut [u8], at: usize, line: &Line) -> usize
             counting,
             effort,
         } => {
-            let at = write_number(buffer, at, *atom as u64);
-            let at = write_field(buffer, at, *own as u64);
-            let at = write_field(buffer, at, *negated as u64);
-            let at = write_field(buffer, at, counting.goal.0);
-            let at = write_field(buffer, at, counting.against.0);
-            let at = write_effort(buffer, at, effort.goal);
-            let at = write_effort(buffer, at, effort.against);
-            write(buffer, at, b"\n")
+            let fields = [
+                Field::Number(*own as u64),
+                Field::Number(*negated as u64),
+                counting.goal.into(),
+                counting.against.into(),
+                effort.goal.into(),
+                effort.against.into(),
+            ];
+            write_fields(report, *atom, &fields)
         }
         Line::Refused { atom, refusal } => {
-            let at = write_number(buffer, at, *atom as u64);
-            let at = write(buffer, at, b" refused");
-            let at = write_field(buffer, at, refusal.number() as u64);
-            let at = write_field(buffer, at, refusal.place() as u64);
-            write(buffer, at, b"\n")
+            let fields = [
+                Field::Word(b"refused"),
+                Field::Number(refusal.number() as u64),
+                Field::Number(refusal.place() as u64),
+            ];
+            write_fields(report, *atom, &fields)
         }
     }
 }
 
-/// Writes a space and an effort at `at`, and says where they end. The effort has at most 10 bytes.
-fn write_effort(buffer: &mut [u8], at: usize, effort: Effort) -> usize
-    requires { at + 11 ≤ length buffer.old }
-    ensures short { length (effort_text effort) ≤ 10 }
-    ensures put { Put buffer.old at (32 ∷ effort_text effort) buffer.new result }
+/// Writes an atom and the fields behind it, and ends the line.
+fn write_fields(report: &mut Lent<'_, u8>, atom: u8, fields: &[Field]) -> Result<(), Full>
+    ensures { Grown report.old report.new (decimal atom ++ spaced (map text fields.now)) result }
 {
-    match effort {
-        Effort::Minutes(minutes) => write_field(buffer, at, minutes as u64),
-        Effort::Never => write(buffer, at, b" never"),
+    write_number(report, atom as u64)?;
+    for field in fields {
+        write_field(report, *field)?;
+    }
+    report.push(b'\n')
+}
+
+/// Writes a space and a field.
+fn write_field(report: &mut Lent<'_, u8>, field: Field) -> Result<(), Full>
+    ensures { Grown report.old report.new (32 ∷ text field) result }
+{
+    report.push(b' ')?;
+    match field {
+        Field::Number(n) => write_number(report, n),
+        Field::Word(word) => report.extend_from_slice(word),
     }
 }
 
-/// Writes a space and a number at `at`, and says where they end.
-fn write_field(buffer: &mut [u8], at: usize, n: u64) -> usize
-    requires { at + length (32 ∷ decimal n) ≤ length buffer.old }
-    ensures { Put buffer.old at (32 ∷ decimal n) buffer.new result }
+/// Writes a number in base ten.
+// Not by `write!`: its contract says what an Ok wrote, but not that there is one where there is room.
+fn write_number(report: &mut Lent<'_, u8>, n: u64) -> Result<(), Full>
+    ensures { Grown report.old report.new (decimal n) result }
 {
-    let at = write(buffer, at, b" ");
-    write_number(buffer, at, n)
-}
-
-/// Writes bytes at `at`, and says where they end.
-fn write(buffer: &mut [u8], at: usize, bytes: &[u8]) -> usize
-    requires { at + length bytes.now ≤ length buffer.old }
-    ensures { Put buffer.old at bytes.now buffer.new result }
-{
-    let end = at + bytes.len();
-    buffer[at..end].copy_from_slice(bytes);
-    end
+    report.extend_from_slice(Buffer::new().format(n).as_bytes())
 }

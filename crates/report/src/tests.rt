@@ -3,6 +3,7 @@ ghost use Rattle.report.specs.Lines.{Small};
 use crate::Line;
 use crate::lines::write_line;
 use model::Refusal;
+use rows::Lent;
 use std::process::Abort;
 use weighing::{Counting, Effort, Weights};
 
@@ -11,7 +12,9 @@ fn reads(rt: &impl Abort, line: &Line, text: &[u8])
     requires { Small line.now }
 {
     let mut buffer = [9; 80];
-    let end = write_line(&mut buffer, 2, line);
+    let mut report = Lent::new(&mut buffer[2..]);
+    assert_eq!(rt; write_line(&mut report, line), Ok(()));
+    let end = 2 + report.len();
     assert_eq!(rt; &buffer[0..2], [9, 9].as_slice());
     assert_eq!(rt; &buffer[2..end], text);
     assert_eq!(rt; buffer[end], 9);

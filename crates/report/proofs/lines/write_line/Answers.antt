@@ -1,77 +1,33 @@
-use Rattle.std.proofs.Common.{◌∷◌, length, decimal, sym, ap, ◌∙◌, arith}
-use Rattle.report.specs.Lines.{line_bytes}
-use Rattle.report.proofs.Puts.{put_on, put_as}
-use Rattle.report.proofs.Sizes.{size, size_any, weighed_sizes, weighed_length, refused_sizes, refused_length}
+use Rattle.std.proofs.Common.{◌≤◌, ◌∷◌, [], ◌++◌, length, decimal, codes, sym, ap, ◌∙◌, subst, arith}
+use Rattle.rows.specs.Lending.{Grown}
+use Rattle.report.specs.Lines.{line_bytes, spaced}
+use Rattle.report.proofs.Sizes.{weighed_sizes, weighed_length, refused_sizes, refused_length}
+use Rattle.report.proofs.Spaces.{fits_most}
 use Rattle.report.proofs.lines.write_line.Goals as goal
-
-pub write_number-at-requires : goal.write_number-at-requires
-write_number-at-requires c = let sizes = weighed_sizes c.in-Weighed.is c.requires.small (omega arith) in omega arith
-
-pub write_field-at-requires : goal.write_field-at-requires
-write_field-at-requires c = let sizes = weighed_sizes c.in-Weighed.is c.requires.small (omega arith) in omega arith
-
-pub write_field-at-requires-in-Weighed : goal.write_field-at-requires-in-Weighed
-write_field-at-requires-in-Weighed c = let sizes = weighed_sizes c.in-Weighed.is c.requires.small (omega arith) in omega arith
-
-pub write_field-at-requires-in-Weighed-2 : goal.write_field-at-requires-in-Weighed-2
-write_field-at-requires-in-Weighed-2 c = let sizes = weighed_sizes c.in-Weighed.is c.requires.small (omega arith) in omega (arith, size_any c.in-Weighed.counting.goal.0 (omega arith))
-
-pub write_field-at-requires-in-Weighed-3 : goal.write_field-at-requires-in-Weighed-3
-write_field-at-requires-in-Weighed-3 c = let sizes = weighed_sizes c.in-Weighed.is c.requires.small (omega arith) in omega (arith, size_any c.in-Weighed.counting.goal.0 (omega arith), size_any c.in-Weighed.counting.against.0 (omega arith))
-
-pub write_effort-at-requires : goal.write_effort-at-requires
-write_effort-at-requires c = let sizes = weighed_sizes c.in-Weighed.is c.requires.small (omega arith) in omega (arith, size_any c.in-Weighed.counting.goal.0 (omega arith), size_any c.in-Weighed.counting.against.0 (omega arith))
-
-pub write_effort-at-requires-in-Weighed : goal.write_effort-at-requires-in-Weighed
-write_effort-at-requires-in-Weighed c = let sizes = weighed_sizes c.in-Weighed.is c.requires.small (omega arith) in omega (arith, size_any c.in-Weighed.counting.goal.0 (omega arith), size_any c.in-Weighed.counting.against.0 (omega arith))
-
-pub write-requires : goal.write-requires
-write-requires c = let sizes = weighed_sizes c.in-Weighed.is c.requires.small (omega arith) in omega (arith, size_any c.in-Weighed.counting.goal.0 (omega arith), size_any c.in-Weighed.counting.against.0 (omega arith))
 
 pub returns-in-Weighed : goal.returns-in-Weighed
 returns-in-Weighed c =
-    let sizes = weighed_sizes c.in-Weighed.is c.requires.small (omega arith) in
-    let goal = size_any c.in-Weighed.counting.goal.0 (omega arith) in
-    let against = size_any c.in-Weighed.counting.against.0 (omega arith) in
-    let whole = ap (λ l. length (line_bytes l)) c.in-Weighed.is ∙ weighed_length c.in-Weighed.atom c.in-Weighed.own c.in-Weighed.negated c.in-Weighed.counting c.in-Weighed.effort in
-    record {
-      short = omega arith;
-      put = put_as (ap line_bytes (sym c.in-Weighed.is))
-          (put_on (omega arith) c.write_number-at.ensures
-          (put_on (omega arith) c.write_field-at.ensures
-          (put_on (omega arith) c.write_field-at-in-Weighed.ensures
-          (put_on (omega arith) c.write_field-at-in-Weighed-2.ensures
-          (put_on (omega arith) c.write_field-at-in-Weighed-3.ensures
-          (put_on (omega arith) c.write_effort-at.ensures.put
-          (put_on (omega arith) c.write_effort-at-in-Weighed.ensures.put c.write.ensures)))))));
-    }
-
-pub write_number-at-requires-in-Refused : goal.write_number-at-requires-in-Refused
-write_number-at-requires-in-Refused c = let sizes = refused_sizes c.in-Refused.is c.requires.small (omega arith) in omega arith
-
-pub write-at-requires : goal.write-at-requires
-write-at-requires c = let sizes = refused_sizes c.in-Refused.is c.requires.small (omega arith) in omega arith
-
-pub write_field-at-requires-in-Refused : goal.write_field-at-requires-in-Refused
-write_field-at-requires-in-Refused c = let sizes = refused_sizes c.in-Refused.is c.requires.small (omega arith) in omega (arith, ap size c.number.ensures)
-
-pub write_field-at-requires-in-Refused-2 : goal.write_field-at-requires-in-Refused-2
-write_field-at-requires-in-Refused-2 c = let sizes = refused_sizes c.in-Refused.is c.requires.small (omega arith) in omega (arith, ap size c.number.ensures, ap size c.place.ensures)
-
-pub write-requires-in-Refused : goal.write-requires-in-Refused
-write-requires-in-Refused c = let sizes = refused_sizes c.in-Refused.is c.requires.small (omega arith) in omega (arith, ap size c.number.ensures, ap size c.place.ensures)
+    let w = c.in-Weighed in
+    let sizes = weighed_sizes w.is c.requires (omega arith) in
+    let a = c.into.ensures in
+    let b = c.into-in-Weighed.ensures in
+    let d = c.into-in-Weighed-2.ensures in
+    let e = c.into-in-Weighed-3.ensures in
+    let whole = ap (λ l. length (line_bytes l)) w.is ∙ weighed_length w.atom w.own w.negated w.counting w.effort in
+    let short : length (line_bytes c.args.line.now) ≤ 75 = omega (arith, ap length a.0, ap length b.0, ap length d.0, ap length e.0) in
+    let same = (λ i. decimal w.atom ++ spaced (decimal w.own ∷ decimal w.negated ∷ a.0 i ∷ b.0 i ∷ d.0 i ∷ e.0 i ∷ [])) ∙ ap line_bytes (sym w.is) in
+    let grown = subst (λ bs. Grown c.args.report.now c.write_fields.new.report bs c.write_fields.result) same c.write_fields.ensures in
+    record { short = short; grown = grown; fits = fits_most 75 c.args.report.now c.write_fields.new.report (line_bytes c.args.line.now) c.write_fields.result grown short }
 
 pub returns-in-Refused : goal.returns-in-Refused
 returns-in-Refused c =
-    let sizes = refused_sizes c.in-Refused.is c.requires.small (omega arith) in
-    let number = ap size c.number.ensures in
-    let place = ap size c.place.ensures in
-    let whole = ap (λ l. length (line_bytes l)) c.in-Refused.is ∙ refused_length c.in-Refused.atom c.in-Refused.refusal in
-    record {
-      short = omega arith;
-      put = put_as (ap line_bytes (sym c.in-Refused.is))
-          (put_on (omega arith) c.write_number-at-in-Refused.ensures
-          (put_on (omega arith) c.write-at.ensures
-          (put_on (omega arith) (put_as (ap (λ n. 32 ∷ decimal n) c.number.ensures) c.write_field-at-in-Refused.ensures)
-          (put_on (omega arith) (put_as (ap (λ n. 32 ∷ decimal n) c.place.ensures) c.write_field-at-in-Refused-2.ensures) c.write-in-Refused.ensures))));
-    }
+    let r = c.in-Refused in
+    let answer = c.write_fields-in-Refused in
+    let sizes = refused_sizes r.is c.requires (omega arith) in
+    let whole = ap (λ l. length (line_bytes l)) r.is ∙ refused_length r.atom r.refusal in
+    let short : length (line_bytes c.args.line.now) ≤ 75 = omega arith in
+    let number = c.number.ensures in
+    let place = c.place.ensures in
+    let same = (λ i. decimal r.atom ++ spaced (codes "refused" ∷ decimal (number i) ∷ decimal (place i) ∷ [])) ∙ ap line_bytes (sym r.is) in
+    let grown = subst (λ bs. Grown c.args.report.now answer.new.report bs answer.result) same answer.ensures in
+    record { short = short; grown = grown; fits = fits_most 75 c.args.report.now answer.new.report (line_bytes c.args.line.now) answer.result grown short }
