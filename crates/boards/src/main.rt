@@ -3,8 +3,10 @@
 
 use anyhow::anyhow;
 use explain::{WORKSPACE, explain};
-use model::{Literal, Model, Refusal, Suppositions};
+use model::{Kind, Literal, Model, Refusal, Suppositions};
 use rows::Row;
+use std::iter::Take;
+use std::slice::Iter;
 
 /// How many rows a result list has.
 const RESULT: usize = 64;
@@ -12,7 +14,7 @@ const RESULT: usize = 64;
 /// The choice of an alternative, as a literal.
 fn choice(alternative: u8, choice: u8) -> Literal {
     Literal {
-        kind: 2,
+        kind: Kind::Choice as u8,
         first: alternative,
         second: choice,
     }
@@ -33,9 +35,9 @@ fn pairs(count: u8) -> Result<Model, Refusal> {
 /// Two bodies whose list is not the list of the minimal explanations: 1:1 with 2:1, and 1:2 with 3:1.
 fn resolved() -> Result<Model, Refusal> {
     let mut model = Model::new();
-    model.declare(&[3, 1])?;
-    model.declare(&[2, 5])?;
-    model.declare(&[4, 1])?;
+    for weights in &[[3, 1], [2, 5], [4, 1]] {
+        model.declare(weights)?;
+    }
     model.state(2, &[choice(1, 1), choice(2, 1)])?;
     model.state(2, &[choice(1, 2), choice(3, 1)])?;
     Ok(model)
@@ -47,7 +49,7 @@ fn print_answer(rt: HostRuntime, model: &Model, atom: u8) -> anyhow::Result<()> 
     let mut negated = vec![in rt.alloc(); Row::empty(); RESULT]?;
     let mut workspace = vec![in rt.alloc(); Row::empty(); WORKSPACE]?;
     let goal = Literal {
-        kind: 0,
+        kind: Kind::Atom as u8,
         first: atom,
         second: 0,
     };
@@ -55,33 +57,27 @@ fn print_answer(rt: HostRuntime, model: &Model, atom: u8) -> anyhow::Result<()> 
         model,
         &Suppositions::none(),
         goal,
-        own.as_mut_slice(),
-        negated.as_mut_slice(),
-        workspace.as_mut_slice(),
+        &mut own,
+        &mut negated,
+        &mut workspace,
     );
     match answer {
         Ok(lengths) => {
-            let affirmed = lengths.own;
-            let denied = lengths.negated;
-            println!(rt; "{affirmed} {denied}")?;
-            print_rows(rt, own.as_slice(), affirmed)?;
-            print_rows(rt, negated.as_slice(), denied)
+            println!(rt; "{} {}", lengths.own, lengths.negated)?;
+            print_rows(rt, own.iter().take(lengths.own))?;
+            print_rows(rt, negated.iter().take(lengths.negated))
         }
         Err(refusal) => {
-            let number = refusal.number();
-            let place = refusal.place();
-            println!(rt; "refused {number} {place}")?;
+            println!(rt; "refused {} {}", refusal.number(), refusal.place())?;
             Ok(())
         }
     }
 }
 
 /// Prints the first three places of each of the first rows, at most six of them.
-fn print_rows(rt: HostRuntime, rows: &[Row], count: usize) -> anyhow::Result<()> {
-    for row in rows.iter().take(count.min(6)) {
-        let first = row.choices[0];
-        let second = row.choices[1];
-        let third = row.choices[2];
+fn print_rows(rt: HostRuntime, rows: Take<Iter<'_, Row>>) -> anyhow::Result<()> {
+    for row in rows.take(6) {
+        let [first, second, third, ..] = row.choices;
         println!(rt; "  {first}{second}{third}")?;
     }
     Ok(())
@@ -89,10 +85,8 @@ fn print_rows(rt: HostRuntime, rows: &[Row], count: usize) -> anyhow::Result<()>
 
 /// Prints what explaining an atom of a board answers, where the board could be built.
 fn print_board(rt: HostRuntime, board: Result<Model, Refusal>, atom: u8) -> anyhow::Result<()> {
-    match board {
-        Ok(model) => print_answer(rt, &model, atom),
-        Err(_) => Err(anyhow!("the board is refused")),
-    }
+    let model = board.map_err(|_| anyhow!("the board is refused"))?;
+    print_answer(rt, &model, atom)
 }
 
 fn main(rt: HostRuntime) -> anyhow::Result<()> {

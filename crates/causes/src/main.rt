@@ -15,20 +15,14 @@ const LONGEST: u64 = 65536;
 fn count_of(rules: &[Rule], atom: u8) -> usize
     ensures { result ≡ length (filter (λ x. nat_eq x.head atom) rules.now) }
 {
-    let mut count = 0;
-    for rule in rules {
-        if rule.head() == atom {
-            count += 1;
-        }
-    }
-    count
+    rules.iter().filter(|rule| rule.head() == atom).count()
 }
 
 fn main(rt: HostRuntime) -> anyhow::Result<()> {
     let mut card = Vec::new(rt.alloc());
     rt.stdin().take(LONGEST).read_to_end(&mut card)?;
     let mut model = Model::new();
-    if let Err(fault) = load(&mut model, card.as_slice()) {
+    if let Err(fault) = load(&mut model, &card) {
         println!(rt; "{fault}")?;
         return Err(anyhow!("the card is refused"));
     }
