@@ -92,6 +92,7 @@ fn answer(
 /// order, and how many they are. What the places after them held is lost: they hold empty rows. Where the question is refused,
 /// both lists hold empty rows throughout. `own` and `negated` have at least 64 places, `workspace` has at least 4,096; what it
 /// holds before does not matter, and afterwards is of no use.
+// Model and suppositions are two parameters, since this is public so; inside they are one `Board`.
 pub fn explain(
     model: &Model,
     suppositions: &Suppositions,

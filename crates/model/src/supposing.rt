@@ -26,6 +26,7 @@ impl Drop for Supposing<'_> {
 }
 
 /// Begins to suppose `choice` at `alternative`, both counted from 1. Where the check would refuse that, it supposes nothing.
+// The model stands beside the suppositions, since this is public so, and the guard lends the suppositions alone.
 pub fn suppose<'a>(
     suppositions: &'a mut Suppositions,
     model: &Model,

@@ -28,6 +28,7 @@ fn first_above<T: Ordered>(held: &[T], x: &T) -> usize
 
 /// Moves those of the first `held` that `x` is not at or below to the front, in their order, and says how many they are.
 /// The first `from` are known to stay. What the places between the new count and the old hold is left open.
+// A count beside the slice, as `put` has, which is public so.
 fn remove_above<T: Ordered>(items: &mut [T], from: usize, held: usize, x: &T) -> usize
     requires within { (from ≤ held) × (held ≤ length items.old) }
     requires stay { spared T.below x.now (take from items.old) ≡ take from items.old }
@@ -58,6 +59,7 @@ fn place<T: Ordered>(held: &[T], x: &T) -> usize
 }
 
 /// Puts `x` at the place `at` of the first `held`, those from there on one place further, and says how many are held then.
+// A count beside the slice, as `put` has, which is public so.
 fn insert<T: Copy>(items: &mut [T], held: usize, at: usize, x: T) -> usize
     requires { (held < length items.old) × (at ≤ held) }
     ensures count { result ≡ held + 1 }
@@ -95,6 +97,7 @@ pub fn put<T: Ordered>(items: &mut [T], held: usize, x: T) -> Result<usize, Full
 }
 
 /// Writes `x` into each place from `from` on.
+// A place beside the slice, since this is public so.
 pub fn fill_from<T: Copy>(items: &mut [T], from: usize, x: T)
     ensures { items.new ≡ take from items.old ++ replicate (length items.old - from) x }
 {

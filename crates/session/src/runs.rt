@@ -54,6 +54,7 @@ fn run_within(
     ensures stopped { Stopped result calls.old calls.new }
     ensures ran { (j : Journal) → Agrees j model.old suppositions.old → Ran result j calls.old calls.new accepted.old accepted.new model.new suppositions.new }
 {
+    // Not a `for`: a supposing that begins takes the next calls from the same iterator.
     while let Some((at, call)) = calls.next() {
         let ok = answer(model, suppositions, *call);
         mark(accepted, at, ok);
