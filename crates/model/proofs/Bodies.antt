@@ -1,9 +1,9 @@
 -- The bodies of rules, as the code goes through them.
 use Rattle.std.proofs.Common.{◌≡◌, ℕ, ◌≤◌, Ordering, Less, Equal, Greater, ◌&&◌, ◌||◌, List, [], ◌∷◌, ◌++◌, ◌-◌, length, take, drop, replicate, append-nil, Some, None, Ok, Err, IsOk, Option, Result, ltb, eqb, sym, refl, ap, ◌∙◌, arith}
-use Rattle.std.specs.List.{flat_map, list_all, list_any}
+use Rattle.std.specs.List.{flat_map, list_all}
 use Rattle.std.specs.Ordering.{is_lt, is_some_and, nat_cmp, partial_lt, partial_ordering_then}
 use Rattle.std.specs.Cmp.Lexicographic.{slice_partial_cmp}
-use Rattle.std.proofs.lemmas.List.{drop_all, length-drop, length-take-le}
+use Rattle.std.proofs.lemmas.List.{drop_all, drop-drop, length-drop, length-take-le, replicate-append-replicate}
 use Rattle.std.proofs.lemmas.Bool.Decides.{nat_tests}
 use Rattle.rows.specs.Keeping.{covered, kept_all, shown}
 use Rattle.rows.specs.Rows.{earlier}
@@ -20,6 +20,17 @@ filled limit n v table rest long is =
     let all = ap (λ vs. rest ++ vs) (drop_all (limit - n) (drop n table) (omega arith)) ∙ append-nil rest in
     ap (λ vs. take n table ++ vs) (all ∙ is ∙ ap (λ k. replicate k v) (length-take-le (limit - n) (drop n table) (omega arith)))
 
+-- a table of which the places from one to another were filled anew, and those from there on held the same already
+pub refilled : {V : Type 0} (limit n m : ℕ) (v : V) (table rest : List V) → n ≤ m → m ≤ limit → length table ≡ limit → rest ≡ replicate (length (take (m - n) (drop n table))) v → drop m table ≡ replicate (limit - m) v
+    → take n table ++ (rest ++ drop (m - n) (drop n table)) ≡ take n table ++ replicate (limit - n) v
+refilled limit n m v table rest low high long is already =
+    let past = length-drop n table in
+    let front = is ∙ ap (λ k. replicate k v) (length-take-le (m - n) (drop n table) (omega arith)) in
+    let behind = drop-drop (m - n) n table ∙ ap (λ k. drop k table) (omega arith) ∙ already in
+    ap (λ vs. take n table ++ vs)
+    (ap (λ vs. vs ++ drop (m - n) (drop n table)) front ∙ ap (λ vs. replicate (m - n) v ++ vs) behind
+    ∙ replicate-append-replicate (m - n) (limit - m) v ∙ ap (λ k. replicate k v) (omega arith))
+
 -- the rule whose literals a run put in the front of a table
 pub rule_built : (head n : ℕ) (body table places : List Literal) → Some (take n table) ≡ kept_all alike sooner 8 [] body → n ≤ 8 → length table ≡ 8 → places ≡ take n table ++ replicate (8 - n) blank_literal
     → ◌≡◌ {A = Rule} (record { head = head; len = n; body = places }) (rule_of head body)
@@ -35,13 +46,9 @@ shown_ok (Ok n) table vs h = refl
 shown_ok (Err e) table vs h = let z : ◌≡◌ {A = ℕ} 0 1 = cc in absurd (omega arith)
 
 -- each literal is one of others
-one_of : (ms : List Literal) (l : Literal) → list_any (λ m. alike m l) ms ≡ covered alike ms l
-one_of [] l = refl
-one_of (m ∷ ms) l = ap (λ b. alike m l || b) (one_of ms l)
-
-pub each_one_of : (ls ms : List Literal) → list_all (λ l. list_any (λ m. alike m l) ms) ls ≡ subset ls ms
+pub each_one_of : (ls ms : List Literal) → list_all (covered alike ms) ls ≡ subset ls ms
 each_one_of [] ms = refl
-each_one_of (l ∷ ls) ms = λ i. one_of ms l i && each_one_of ls ms i
+each_one_of (l ∷ ls) ms = λ i. covered alike ms l && each_one_of ls ms i
 
 -- orders one after another
 then_then : (a b c : Option Ordering) → partial_ordering_then (partial_ordering_then a b) c ≡ partial_ordering_then a (partial_ordering_then b c)

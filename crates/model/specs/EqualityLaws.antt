@@ -1,4 +1,4 @@
--- The derived `==` tells exactly whether two values are the same.
+-- `==` tells exactly whether two values are the same.
 use Rattle.std.specs.Prelude.{◌≡◌, Bool, Decides, refl}
 use Rattle.std.proofs.Common.{sym, subst, rules}
 use Rattle.std.proofs.lemmas.Slice.Eq.{slice_eq-Decides}

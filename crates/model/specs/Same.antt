@@ -1,7 +1,9 @@
 -- A model is its four fields: what it keeps to has one proof at most.
 use mathlib.Core.HLevel.{is_prop→PathP}
 use Rattle.std.proofs.Common.{◌≡◌}
+use Rattle.model.specs.declared.alternative.Alternative.{Alternative}
 use Rattle.model.specs.declared.model.Model.{Model}
+use Rattle.model.specs.declared.rule.Rule.{Rule}
 use Rattle.model.specs.contracts.model.Model.{the_values, the_ghost, the_propositions}
 use Rattle.model.specs.contracts.alternative.Alternative as alternative
 use Rattle.model.specs.contracts.rule.Rule as rule
@@ -35,3 +37,10 @@ unfolding values ghosts model_of
 model_same m n p q r s =
     let v : values m ≡ values n = λ i. (p i, (q i, (r i, (s i, tt)))) in
     λ i. model_of (v i) (is_prop→PathP (λ j. the_ghost (v j)) (λ j. the_propositions (alternative.the_row).coded (rule.the_row).coded (v j)) (ghosts m) (ghosts n) i)
+
+-- an alternative is its two fields, and a rule its three
+pub alternative_same : (a b : Alternative) → a.choices ≡ b.choices → a.weights ≡ b.weights → a ≡ b
+alternative_same a b p q = λ i. record { choices = p i; weights = q i }
+
+pub rule_fields_same : (r s : Rule) → r.head ≡ s.head → r.len ≡ s.len → r.body ≡ s.body → r ≡ s
+rule_fields_same r s p q t = λ i. record { head = p i; len = q i; body = t i }

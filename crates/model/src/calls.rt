@@ -80,8 +80,10 @@ impl Model {
     {
         self.judge(head, body)?;
         let rule = Rule::new(head, body);
+        let before = self.held;
         let held = rows::put(&mut self.rules, self.held, rule).map_err(|_| Refusal::NumberOfRules)?;
-        self.rules[held..].fill(Rule::BLANK);
+        // Those that went out leave these places behind; past them all are blank already.
+        self.rules[held..before.max(held)].fill(Rule::BLANK);
         self.held = held;
         Ok(())
     }

@@ -3,6 +3,7 @@
 
 mod alternative;
 mod calls;
+mod equality;
 mod judge;
 mod literal;
 mod model;

@@ -13,7 +13,7 @@ pub(crate) const RULES: usize = 128;
 /// A model of a board: alternatives, and rules of which none is below another, in order.
 /// The places past those that are in use are blank, so equal models are equal values.
 // Arrays with counts: there is no heap, and equal models are to be equal values to the last place.
-#[derive(PartialEq, Eq, Drop)]
+#[derive(Drop)]
 pub struct Model {
     pub(crate) declared: usize,
     pub(crate) alternatives: [Alternative; ALTERNATIVES],

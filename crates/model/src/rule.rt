@@ -3,14 +3,14 @@ ghost use Rattle.model.specs.Rules.{literals, subset, rule_below, rule_before, c
 ghost use Rattle.model.specs.Laws.{rule_orders};
 
 use crate::Literal;
-use rows::{Ordered, put_all};
+use rows::{Ordered, covers, put_all};
 
 /// The most literals of a body.
 pub(crate) const LITERALS: usize = 8;
 
 /// A rule: its head, and its body as a set of literals in order. The places past the last literal are blank.
 // An array with a count: there is no heap, and equal rules are to be equal values to the last place.
-#[derive(Clone, Copy, PartialEq, Eq)]
+#[derive(Clone, Copy)]
 pub struct Rule {
     pub(crate) head: u8,
     pub(crate) len: u8,
@@ -80,5 +80,5 @@ impl Ordered for Rule {
 fn is_subset(literals: &[Literal], others: &[Literal]) -> bool
     ensures { result ≡ subset literals.now others.now }
 {
-    literals.iter().all(|literal| others.contains(literal))
+    literals.iter().all(|literal| covers(others, literal))
 }

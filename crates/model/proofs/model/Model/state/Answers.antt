@@ -1,5 +1,5 @@
 use Rattle.std.proofs.Common.{◌≡◌, ◌-◌, ◌≤◌, ◌++◌, List, true, length, take, drop, replicate, Some, None, Ok, Err, Result, OnErr, sym, refl, ap, ◌∙◌, subst, arith, rules as tries}
-use Rattle.std.proofs.lemmas.List.{length-append, length-replicate, length-take, length-take-le, take_at, drop_at}
+use Rattle.std.proofs.lemmas.List.{length-append, length-replicate, length-take, length-take-le, take_at, drop_at, drop-drop, drop-replicate}
 use Rattle.rows.specs.Keeping.{kept}
 use Rattle.model.specs.declared.rule.Rule.{Rule}
 use Rattle.model.specs.Holding.{sizes_of, sound_rule, sound_rules}
@@ -7,7 +7,7 @@ use Rattle.model.specs.Judging.{judge_rule}
 use Rattle.model.specs.Models.{alternatives, rules, sizes}
 use Rattle.model.specs.Rules.{rule_below, rule_before, blank_rule, minimal_rules, rule_of}
 use Rattle.model.specs.Same.{model_same}
-use Rattle.model.proofs.Bodies.{filled}
+use Rattle.model.proofs.Bodies.{refilled}
 use Rattle.model.proofs.Journals.{agrees_states}
 use Rattle.model.proofs.States.{Free, judged_free, judged_ok, rule_sound, put_sound, put_minimal, stating_put}
 use Rattle.model.proofs.Tables.{sizes_same}
@@ -36,13 +36,20 @@ long c = omega (arith, c.args.self.now.shelves)
 fits : (c : After-fill) → c.in_ok-held.held ≤ 128
 fits c = omega (arith, c.args.self.now.shelves, rw (put c) at c.put.ensures.fits)
 
-table : (c : After-fill) → take c.in_ok-held.held c.put.new.items ++ (c.fill.new.self ++ drop (128 - c.in_ok-held.held) (drop c.in_ok-held.held c.put.new.items)) ≡ take c.in_ok-held.held c.put.new.items ++ replicate (128 - c.in_ok-held.held) blank_rule
-table c = filled 128 c.in_ok-held.held blank_rule c.put.new.items c.fill.new.self (long c) (c.fill.ensures.after (λ y is. is))
+still : (c : After-fill) → drop c.max.result c.put.new.items ≡ replicate (128 - c.max.result) blank_rule
+still c =
+    let m = c.args.self.now in
+    let k = c.max.result in
+    ap (λ j. drop j c.put.new.items) (omega arith) ∙ (rw (put c) at c.put.ensures.past) ∙ ap (λ j. drop j m.rules) (omega arith) ∙ sym (drop-drop (k - m.held) m.held m.rules) ∙ ap (drop (k - m.held)) m.unheld
+    ∙ drop-replicate (k - m.held) (128 - m.held) blank_rule ∙ ap (λ j. replicate j blank_rule) (omega arith)
+
+table : (c : After-fill) → take c.in_ok-held.held c.put.new.items ++ (c.fill.new.self ++ drop (c.max.result - c.in_ok-held.held) (drop c.in_ok-held.held c.put.new.items)) ≡ take c.in_ok-held.held c.put.new.items ++ replicate (128 - c.in_ok-held.held) blank_rule
+table c = refilled 128 c.in_ok-held.held c.max.result blank_rule c.put.new.items c.fill.new.self (omega arith) (omega (arith, c.args.self.now.within, fits c)) (long c) (c.fill.ensures.after (λ y is. is)) (still c)
 
 front_long : (c : After-fill) → length (take c.in_ok-held.held c.put.new.items) ≡ c.in_ok-held.held
 front_long c = length-take-le c.in_ok-held.held c.put.new.items (omega (arith, fits c, long c))
 
-front : (c : After-fill) → take c.in_ok-held.held (take c.in_ok-held.held c.put.new.items ++ (c.fill.new.self ++ drop (128 - c.in_ok-held.held) (drop c.in_ok-held.held c.put.new.items))) ≡ take c.in_ok-held.held c.put.new.items
+front : (c : After-fill) → take c.in_ok-held.held (take c.in_ok-held.held c.put.new.items ++ (c.fill.new.self ++ drop (c.max.result - c.in_ok-held.held) (drop c.in_ok-held.held c.put.new.items))) ≡ take c.in_ok-held.held c.put.new.items
 front c = ap (take c.in_ok-held.held) (table c) ∙ take_at (take c.in_ok-held.held c.put.new.items) (replicate (128 - c.in_ok-held.held) blank_rule) c.in_ok-held.held (front_long c)
 
 pub invariant_of-self-2 : goal.invariant_of-self-2
