@@ -11,7 +11,7 @@ ghost use Rattle.explain.specs.Options.{options_of};
 ghost use Rattle.explain.specs.Tables.{lower_lists};
 
 use crate::Board;
-use crate::choices::{CONTRARIES, choice_lists};
+use crate::choices::{CONTRARIES, choice_lists, negated_rows, own_rows};
 use crate::duals::{Conjunction, Scratch};
 use crate::lists::{Lists, ROWS};
 use model::{Kind, Literal};
@@ -54,6 +54,24 @@ impl<'a> Known<'a> {
             _ => Ok(choice_lists(self.board, place, literal.second, scratch)?.exchanged()),
         }
     }
+
+    /// The own list of a literal alone. That of a choice is written to `scratch`.
+    // Beside `literal`, which writes both lists of a choice: a body needs only this one.
+    pub fn own_rows(
+        self,
+        literal: &Literal,
+        scratch: &'a mut [Row; CONTRARIES],
+    ) -> Result<&'a [Row], Full>
+        ensures { IsOkAnd result (λ rows. as_lists rows.now ≡ (lists_of (options_of self.entry.board) (lower_lists self.entry) (meaning literal.now)).own) }
+    {
+        let place = literal.first.saturating_sub(1) as usize;
+        match literal.kind() {
+            Some(Kind::Atom) => Ok(self.atom(literal.first).own),
+            Some(Kind::NotAtom) => Ok(self.atom(literal.first).negated),
+            Some(Kind::Choice) => own_rows(self.board, place, literal.second, scratch),
+            _ => negated_rows(self.board, place, literal.second, scratch),
+        }
+    }
 }
 
 /// Conjoins the lists of the literals of a body.
@@ -67,8 +85,8 @@ fn conjoin_body(
     ensures { told result (rows_in rows.new) ≡ body_from 64 (options_of known.entry.board) (lower_lists known.entry) (rows_in rows.old) (map meaning body.now) }
 {
     for literal in body {
-        let lists = known.literal(literal, scratch)?;
-        rows.and(lists.own, spare)?;
+        let own = known.own_rows(literal, scratch)?;
+        rows.and(own, spare)?;
     }
     Ok(())
 }

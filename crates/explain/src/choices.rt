@@ -52,6 +52,32 @@ fn choice_rows<'a, F: Fn(u8) -> bool>(
     Ok(list.into_slice())
 }
 
+/// The rows of a choice, in the front of `places`.
+pub(crate) fn own_rows<'a>(
+    board: Board<'_>,
+    place: usize,
+    choice: u8,
+    places: &'a mut [Row],
+) -> Result<&'a [Row], Full>
+    requires { 8 ≤ length places.old }
+    ensures { IsOkAnd result (λ rows. (as_lists rows.now ≡ (choice_lists (options_of board.entry) place choice).own) × (length rows.now ≤ 8)) }
+{
+    choice_rows(board, place, |option| option == choice, places)
+}
+
+/// The rows of the negation of a choice, in the front of `places`.
+pub(crate) fn negated_rows<'a>(
+    board: Board<'_>,
+    place: usize,
+    choice: u8,
+    places: &'a mut [Row],
+) -> Result<&'a [Row], Full>
+    requires { 8 ≤ length places.old }
+    ensures { IsOkAnd result (λ rows. (as_lists rows.now ≡ (choice_lists (options_of board.entry) place choice).negated) × (length rows.now ≤ 8)) }
+{
+    choice_rows(board, place, |option| option != choice, places)
+}
+
 /// The rows of a choice and those of its negation, written to `scratch`.
 pub(crate) fn choice_lists<'a>(
     board: Board<'_>,
@@ -63,8 +89,8 @@ pub(crate) fn choice_lists<'a>(
 {
     let (own, negated) = scratch.split_at_mut(ROWS);
     Ok(Lists {
-        own: choice_rows(board, place, |option| option == choice, own)?,
-        negated: choice_rows(board, place, |option| option != choice, negated)?,
+        own: own_rows(board, place, choice, own)?,
+        negated: negated_rows(board, place, choice, negated)?,
     })
 }
 

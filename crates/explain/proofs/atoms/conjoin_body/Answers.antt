@@ -1,6 +1,5 @@
-use Rattle.std.proofs.Common.{sym, ap, ◌∙◌}
+use Rattle.std.proofs.Common.{sym, ◌∙◌}
 use Rattle.std.proofs.lemmas.Result.{err_from_is_err_and}
-use Rattle.logic.specs.Atoms.{Lists}
 use Rattle.explain.specs.Conjunctions.{rows_in}
 use Rattle.explain.specs.Lists.{as_lists}
 use Rattle.explain.specs.Options.{options_of}
@@ -11,17 +10,15 @@ use Rattle.explain.proofs.atoms.conjoin_body.Goals as goal
 pub loop-literal-preserved : goal.loop-literal-preserved
 loop-literal-preserved c =
     let k = c.args.known in
-    let is = ap (λ (e : Lists). e.own) c.in_ok-lists.ensures in
     body_more 64 (options_of k.board) (lower_lists k) c.args.body.now c.loop-literal.literal-index (rows_in c.loop-literal.rows) c.loop-literal-test.true
-    (as_lists c.in_ok-lists.lists.own.now) is (rows_in c.and.new.self) c.in_ok-and.ensures ∙ c.loop-literal.invariant
+    (as_lists c.in_ok-own.own.now) c.in_ok-own.ensures (rows_in c.and.new.self) c.in_ok-and.ensures ∙ c.loop-literal.invariant
 
 pub returns-in_err-and : goal.returns-in_err-and
 returns-in_err-and c =
     let k = c.args.known in
-    let is = ap (λ (e : Lists). e.own) c.in_ok-lists.ensures in
     let p = err_from_is_err_and c.from_residual-in_err-and.result c.from_residual-in_err-and.ensures.1 in
     rw p.1 (body_stop 64 (options_of k.board) (lower_lists k) c.args.body.now c.loop-literal.literal-index (rows_in c.loop-literal.rows) c.loop-literal-test.true
-    (as_lists c.in_ok-lists.lists.own.now) is c.in_err-and.ensures ∙ c.loop-literal.invariant)
+    (as_lists c.in_ok-own.own.now) c.in_ok-own.ensures c.in_err-and.ensures ∙ c.loop-literal.invariant)
 
 pub returns : goal.returns
 returns c =
