@@ -11,6 +11,7 @@ use Rattle.model.specs.declared.suppositions.Suppositions.{Suppositions}
 use Rattle.model.specs.Journal as journal
 use Rattle.model.specs.Journal.{Journal, declares, weighs, states, checks, supposes, ends, asks, feed, Agrees}
 use Rattle.session.specs.declared.call.Call.{Call}
+use Rattle.session.specs.declared.call.Call.TheVariants.{Declare, SetWeight, State, Check, Suppose, End}
 use Rattle.session.specs.Sessions.{called, accepts, after, acceptances}
 
 -- the journal after a call, but for the beginning and the end of a supposing, which stay to be fed
@@ -53,12 +54,21 @@ left calls = iter_rest (enumerate_source calls)
 abbrev pub place : Enumerate (Iter Call) → ℕ
 place calls = enumerate_count calls
 
--- what a run answers: it stopped behind the end of the supposing that it is in, or it is done
-abbrev pub Ran : ControlFlow Suppositions (Unit {0}) → Journal → Enumerate (Iter Call) → Enumerate (Iter Call) → List Bool → List Bool → Model → Suppositions → Type 0
-Ran (Continue _) j calls rest before behind m s = Reached j (λ k. feed k ends true) (left calls) (left rest) (place calls) (place rest) before behind m s
-Ran (Break t) j calls rest before behind m s = Finished j (left calls) (place calls) before behind m t
+-- what is fed next once a call was made: an end, where it is one
+abbrev pub ending : Call → Journal → Journal
+ending (Declare weights) k = k
+ending (SetWeight a c w) k = k
+ending (State head body) k = k
+ending (Check a c) k = k
+ending (Suppose a c) k = k
+ending End k = feed k ends true
+
+-- what a run from a place on answers: it stopped, and `more` is fed next, or it is done
+abbrev pub Ran : (Journal → Journal) → ControlFlow Suppositions (Unit {0}) → Journal → List Call → ℕ → Enumerate (Iter Call) → List Bool → List Bool → Model → Suppositions → Type 0
+Ran more (Continue _) j calls from rest before behind m s = Reached j more calls (left rest) from (place rest) before behind m s
+Ran more (Break t) j calls from rest before behind m s = Finished j calls from before behind m t
 
 -- a run that stops has come on, and the places count the calls that it made
-abbrev pub Stopped : ControlFlow Suppositions (Unit {0}) → Enumerate (Iter Call) → Enumerate (Iter Call) → Type 0
-Stopped (Continue _) calls rest = (length (left rest) < length (left calls)) × (place rest + length (left rest) ≡ place calls + length (left calls))
-Stopped (Break t) calls rest = Unit {0}
+abbrev pub Stopped : ControlFlow Suppositions (Unit {0}) → List Call → ℕ → Enumerate (Iter Call) → Type 0
+Stopped (Continue _) calls from rest = (length (left rest) < length calls) × (place rest + length (left rest) ≡ from + length calls)
+Stopped (Break t) calls from rest = Unit {0}

@@ -1,7 +1,8 @@
-ghost use Rattle.std.specs.Prelude.{◌≡◌, ◌+◌, ◌<◌, ◌^◌, map, length, slice_set};
-ghost use Rattle.model.specs.Journal.{Journal, Agrees, fresh};
+ghost use Rattle.std.specs.Prelude.{◌≡◌, ◌+◌, ◌<◌, ◌^◌, ◌∷◌, map, length, slice_set};
+ghost use Rattle.model.specs.Journal.{Journal, Agrees, declares, fresh};
+ghost use Rattle.model.specs.declared.suppositions.Suppositions.{Suppositions};
 ghost use Rattle.session.specs.Sessions.{called, accepts, after, acceptances, overwritten};
-ghost use Rattle.session.specs.Running.{answered, left, place, Ran, Stopped};
+ghost use Rattle.session.specs.Running.{answered, ending, left, place, Ran, Stopped};
 
 use crate::Call;
 use model::{Model, Suppositions, suppose};
@@ -9,13 +10,25 @@ use std::iter::Enumerate;
 use std::ops::ControlFlow;
 use std::slice::Iter;
 
-/// Makes a call, unless it begins or ends a supposing, and says whether the session accepts it.
-fn answer(model: &mut Model, suppositions: &Suppositions, call: Call<'_>) -> bool
-    ensures accepted { (j : Journal) → Agrees j model.old suppositions.now → result ≡ accepts j (called call.entry) }
-    ensures journal { (j : Journal) → Agrees j model.old suppositions.now → Agrees (answered j (called call.entry)) model.new suppositions.now }
+/// Declares an alternative, and says whether the session accepts it.
+// Not inlined, so that a run within a supposing takes no room on the stack for an alternative.
+#[inline(never)]
+fn declare(model: &mut Model, weights: &[u32]) -> bool
+    ensures accepted { (j : Journal) (s : Suppositions) → Agrees j model.old s → result ≡ accepts j (declares weights.now) }
+    ensures journal { (j : Journal) (s : Suppositions) → Agrees j model.old s → Agrees (answered j (declares weights.now)) model.new s }
 {
-    match call {
-        Call::Declare { weights } => model.declare(weights).is_ok(),
+    model.declare(weights).is_ok()
+}
+
+/// Makes a call, unless it begins or ends a supposing, and says whether the session accepts it.
+// Inlined, since it is called for each call of a list, from both of the loops over them.
+#[inline(always)]
+fn answer(model: &mut Model, suppositions: &Suppositions, call: &Call<'_>) -> bool
+    ensures accepted { (j : Journal) → Agrees j model.old suppositions.now → result ≡ accepts j (called call.now) }
+    ensures journal { (j : Journal) → Agrees j model.old suppositions.now → Agrees (answered j (called call.now)) model.new suppositions.now }
+{
+    match *call {
+        Call::Declare { weights } => declare(model, weights),
         Call::SetWeight {
             alternative,
             choice,
@@ -40,9 +53,43 @@ fn mark(flags: &mut [bool], at: usize, flag: bool)
     }
 }
 
+/// Makes a call, and where it begins a supposing, the calls that are left up to its end; or up to the last call, and then breaks
+/// off with what was supposed there.
+// Model and suppositions stay two parameters, since the guard of a supposing lends the suppositions alone.
+// Inlined, so that a supposing within another takes one frame on the stack.
+#[cycle(run)]
+#[inline(always)]
+fn make(
+    model: &mut Model,
+    suppositions: &mut Suppositions,
+    call: &Call<'_>,
+    at: usize,
+    calls: &mut Enumerate<Iter<'_, Call<'_>>>,
+    accepted: &mut [bool],
+) -> ControlFlow<Suppositions>
+    requires next { place calls.old ≡ at + 1 }
+    requires room { place calls.old + length (left calls.old) < 2 ^ 64 }
+    ensures same { suppositions.new ≡ suppositions.old }
+    ensures stopped { Stopped result (call.now ∷ left calls.old) at calls.new }
+    ensures ran { (j : Journal) → Agrees j model.old suppositions.old → Ran (ending call.now) result j (call.now ∷ left calls.old) at calls.new accepted.old accepted.new model.new suppositions.new }
+{
+    let ok = answer(model, suppositions, call);
+    mark(accepted, at, ok);
+    match *call {
+        Call::Suppose {
+            alternative,
+            choice,
+        } => {
+            let guard = suppose(suppositions, model, alternative, choice);
+            run_within(model, guard.suppositions, calls, accepted)
+        }
+        _ => ControlFlow::Continue(()),
+    }
+}
+
 /// Runs the calls that are left, up to the end of the supposing that it is in; or up to the last call, and then breaks off
 /// with what was supposed there.
-// Model and suppositions stay two parameters, since the guard of a supposing lends the suppositions alone.
+#[cycle(run)]
 fn run_within(
     model: &mut Model,
     suppositions: &mut Suppositions,
@@ -51,23 +98,14 @@ fn run_within(
 ) -> ControlFlow<Suppositions>
     requires { place calls.old + length (left calls.old) < 2 ^ 64 }
     ensures same { suppositions.new ≡ suppositions.old }
-    ensures stopped { Stopped result calls.old calls.new }
-    ensures ran { (j : Journal) → Agrees j model.old suppositions.old → Ran result j calls.old calls.new accepted.old accepted.new model.new suppositions.new }
+    ensures stopped { Stopped result (left calls.old) (place calls.old) calls.new }
+    ensures ran { (j : Journal) → Agrees j model.old suppositions.old → Ran (ending Call.End) result j (left calls.old) (place calls.old) calls.new accepted.old accepted.new model.new suppositions.new }
 {
     // Not a `for`: a supposing that begins takes the next calls from the same iterator.
     while let Some((at, call)) = calls.next() {
-        let ok = answer(model, suppositions, *call);
-        mark(accepted, at, ok);
-        match *call {
-            Call::Suppose {
-                alternative,
-                choice,
-            } => {
-                let guard = suppose(suppositions, model, alternative, choice);
-                run_within(model, guard.suppositions, calls, accepted)?;
-            }
-            Call::End => return ControlFlow::Continue(()),
-            _ => {}
+        make(model, suppositions, call, at, calls, accepted)?;
+        if let Call::End = call {
+            return ControlFlow::Continue(());
         }
     }
     ControlFlow::Break(*suppositions)
@@ -82,13 +120,14 @@ pub fn replay(calls: &[Call<'_>], model: &mut Model, accepted: &mut [bool]) -> S
     *model = Model::new();
     let mut suppositions = Suppositions::none();
     let mut rest = calls.iter().enumerate();
-    loop {
+    while let Some((at, call)) = rest.next() {
         // An end without a beginning changes nothing.
-        let ran = run_within(model, &mut suppositions, &mut rest, accepted);
-        if let ControlFlow::Break(supposed) = ran {
+        let made = make(model, &mut suppositions, call, at, &mut rest, accepted);
+        if let ControlFlow::Break(supposed) = made {
             return supposed;
         }
     }
+    suppositions
 }
 
 /// Runs all calls on an empty model, and says what is supposed behind the last one.

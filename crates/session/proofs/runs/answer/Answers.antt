@@ -1,18 +1,19 @@
-use Rattle.std.proofs.Common.{ap}
-use Rattle.session.specs.Sessions.{called}
-use Rattle.session.proofs.Accepted.{answers_declares, answers_weighs, answers_states}
+use Rattle.std.proofs.Common.{sym, ap, ◌∙◌, subst}
+use Rattle.model.specs.Journal.{Agrees}
+use Rattle.session.specs.Running.{answered}
+use Rattle.session.specs.Sessions.{called, accepts}
+use Rattle.session.proofs.Accepted.{answers_weighs, answers_states}
 use Rattle.session.proofs.runs.answer.Goals as goal
 
 pub returns-in-Declare : goal.returns-in-Declare
 returns-in-Declare c =
-    let said = c.declare.ensures in
-    let both = answers_declares c.args.suppositions.now c.declare.result c.is_ok.ensures.value (ap called c.in-Declare.is) said.defined said.journal in
-    record { accepted = both.0; journal = both.1 }
+    let is = sym (ap called c.in-Declare.is) in
+    record { accepted = λ j g. c.declare.ensures.accepted j _ g ∙ ap (accepts j) is; journal = λ j g. subst (λ call. Agrees (answered j call) c.declare.new.model c.args.suppositions.now) is (c.declare.ensures.journal j _ g) }
 
 pub returns-in-SetWeight : goal.returns-in-SetWeight
 returns-in-SetWeight c =
     let said = c.set_weight.ensures in
-    let both = answers_weighs c.args.suppositions.now c.set_weight.result c.is_ok-in-SetWeight.ensures.value (ap called c.in-SetWeight.is) said.defined said.journal in
+    let both = answers_weighs c.args.suppositions.now c.set_weight.result c.is_ok.ensures.value (ap called c.in-SetWeight.is) said.defined said.journal in
     record { accepted = both.0; journal = both.1 }
 
 pub returns-in-State : goal.returns-in-State

@@ -1,14 +1,17 @@
-use Rattle.std.proofs.Common.{◌≡◌, ◌+◌, ◌≤◌, length}
+use Rattle.std.proofs.Common.{◌≡◌, ◌+◌, ◌*◌, ◌≤◌, length}
 use Rattle.model.specs.Journal.{Journal, Agrees}
 use Rattle.session.specs.Running.{left, place, Reached}
-use Rattle.session.proofs.runs.+run_within.Given as goal
+use Rattle.session.proofs.runs.+run.Given as goal
+
+abbrev pub decreases-make : goal.decreases-make
+decreases-make l = 2 * length (left l.calls.now) + 1
 
 abbrev pub decreases-run_within : goal.decreases-run_within
-decreases-run_within l = length (left l.calls.now)
+decreases-run_within l = 2 * length (left l.calls.now)
 
-abbrev pub invariant-loop-at : goal.invariant-loop-at
-invariant-loop-at l =
-    (goal.iterator-loop-at).can_next l.calls × (goal.iterator-loop-at).is_finite l.calls
+abbrev pub invariant-run_within-loop-at : goal.invariant-run_within-loop-at
+invariant-run_within-loop-at l =
+    (goal.iterator-run_within-loop-at).can_next l.calls × (goal.iterator-run_within-loop-at).is_finite l.calls
     × record {
       same : l.suppositions ≡ l.initial.suppositions;
       come : length (left l.calls) ≤ length (left l.initial.calls);
