@@ -1,9 +1,10 @@
 -- The parts of a model's card, and how many bytes they have.
 use Rattle.std.proofs.Common.{◌≡◌, ℕ, ◌+◌, ◌*◌, ◌/◌, ◌≤◌, true, List, [], ◌∷◌, ◌++◌, map, length, take, codes, sym, refl, ap, ◌∙◌, subst, arith}
-use Rattle.std.specs.List.{flat_map, AllByRecursion}
+use Rattle.std.specs.List.{flat_map, All, AllByRecursion}
 use Rattle.std.proofs.ByRecursion.{All-weaker}
 use Rattle.std.proofs.lemmas.List.{length-append, length-take-le}
 use Rattle.std.proofs.lemmas.List.Concat.{flat_map-append}
+use Rattle.std.proofs.lemmas.List.Elements.{All-from_recursion}
 use Rattle.std.proofs.lemmas.List.Folds.{flat_map-map}
 use Rattle.std.proofs.lemmas.Bool.{and_parts}
 use Rattle.std.proofs.lemmas.Bool.Decides.{nat_tests}
@@ -122,8 +123,8 @@ module _ (m : Model) where
         let all = ap length stored_parts in
         omega (arith, length-append (flat_map alternative_bytes as') (flat_map rule_bytes rs ++ codes "EN"), length-append (flat_map rule_bytes rs) (codes "EN"))
 
-    pub few_weights : AllByRecursion (λ a. length (weights_of a) ≤ 8) as'
-    few_weights = all_unmap (λ ws. length ws ≤ 8) weights_of as' (subst (AllByRecursion (λ ws. length ws ≤ 8)) (sym as_is) (All-weaker Choices (λ ws. length ws ≤ 8) (λ ws h. h.1) (alternatives m) (model_choices m)))
+    pub few_weights : All (λ a. length (weights_of a) ≤ 8) as'
+    few_weights = All-from_recursion (λ a. length (weights_of a) ≤ 8) as' (all_unmap (λ ws. length ws ≤ 8) weights_of as' (subst (AllByRecursion (λ ws. length ws ≤ 8)) (sym as_is) (All-weaker Choices (λ ws. length ws ≤ 8) (λ ws h. h.1) (alternatives m) (model_choices m))))
 
-    pub few_literals : AllByRecursion Short rs
-    few_literals = subst (AllByRecursion Short) (sym rs-is) (model_short m)
+    pub few_literals : All Short rs
+    few_literals = All-from_recursion Short rs (subst (AllByRecursion Short) (sym rs-is) (model_short m))

@@ -1,5 +1,5 @@
 ghost use Rattle.std.specs.Prelude.{◌≡◌, ℕ, ◌+◌, ◌^◌, ◌<◌, ◌≤◌, true, List, ◌++◌, length, drop, is_ok, OnOk, MatchResult};
-ghost use Rattle.std.specs.List.{flat_map, AllByRecursion};
+ghost use Rattle.std.specs.List.{flat_map, All, AllByRecursion};
 ghost use Rattle.rows.specs.Lending.{Grown};
 ghost use Rattle.model.specs.Alternatives.{weights_of};
 ghost use Rattle.model.specs.Models.{alternatives};
@@ -56,7 +56,7 @@ fn size_of_each<T: Stored>(each: &[T]) -> usize
 
 /// Writes these, one after the other.
 fn write_each<T: Stored>(each: &[T], card: &mut Lent<'_, u8>) -> Result<(), Full>
-    requires { AllByRecursion T.few each.now }
+    requires { All T.few each.now }
     ensures grown { Grown card.old card.new (flat_map T.bytes each.now) result }
     ensures fits { OnOk result (AllByRecursion T.fits each.now) }
 {
@@ -96,8 +96,7 @@ impl Stored for Alternative {
 
     fn write(&self, card: &mut Lent<'_, u8>) -> Result<(), Full> {
         let weights = self.weights();
-        card.extend_from_slice(b"AL")?;
-        card.push(weights.len() as u8)?;
+        card.extend_from_slice(&[b'A', b'L', weights.len() as u8])?;
         write_each(weights, card)
     }
 }
@@ -113,8 +112,7 @@ impl Stored for Rule {
 
     fn write(&self, card: &mut Lent<'_, u8>) -> Result<(), Full> {
         let body = self.body();
-        card.extend_from_slice(b"RU")?;
-        card.extend_from_slice(&[self.head(), body.len() as u8])?;
+        card.extend_from_slice(&[b'R', b'U', self.head(), body.len() as u8])?;
         write_each(body, card)
     }
 }

@@ -12,9 +12,10 @@ fn reads(rt: &impl Abort, line: &Line, text: &[u8])
     requires { Small line.now }
 {
     let mut buffer = [9; 80];
-    let mut report = Lent::new(&mut buffer[2..]);
+    let mut report = Lent::new(&mut buffer);
+    assert_eq!(rt; report.extend_from_slice(&[9, 9]), Ok(()));
     assert_eq!(rt; write_line(&mut report, line), Ok(()));
-    let end = 2 + report.len();
+    let end = report.len();
     assert_eq!(rt; &buffer[0..2], [9, 9].as_slice());
     assert_eq!(rt; &buffer[2..end], text);
     assert_eq!(rt; buffer[end], 9);

@@ -1,6 +1,6 @@
 use Rattle.std.proofs.Common.{sym, subst, arith}
 use Rattle.std.specs.List.{flat_map, AllByRecursion}
-use Rattle.std.proofs.ByRecursion.{All-get_or, All-more}
+use Rattle.std.proofs.ByRecursion.{All-more}
 use Rattle.std.proofs.lemmas.List.{take_all}
 use Rattle.rows.proofs.Lends.{grown_none}
 use Rattle.card.proofs.Writes.{grown_err, writing_more, writing_all, writing_refused}
@@ -10,7 +10,7 @@ pub loop-x-init : goal.loop-x-init
 loop-x-init g c = record { written = grown_none c.args.card.now; fits = tt }
 
 pub write-requires : goal.write-requires
-write-requires g c = subst g.T.Stored.few (sym c.x-item.is) (All-get_or g.T.Stored.few c.args.each.now c.loop-x.x-index c.x-item.result (omega arith) c.requires)
+write-requires g c = subst g.T.Stored.few (sym c.x-item.is) (c.requires c.loop-x.x-index c.x-item.result (omega arith))
 
 pub returns-in_err-write-clause-grown : goal.returns-in_err-write-clause-grown
 returns-in_err-write-clause-grown g c =

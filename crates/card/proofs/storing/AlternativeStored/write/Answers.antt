@@ -15,11 +15,9 @@ returns-clause-grown c =
     let bytes = flat_map weight_bytes ws in
     let start = c.args.card.now in
     let one = c.extend_from_slice.new.self in
-    let two = c.push.new.self in
-    let three = c.write_each.new.card in
-    subst (λ all. Grown start three all c.write_each.result) (alternative_parts c.args.self.now ws c.weights-weights.ensures)
-    (grown_more start one three (codes "AL") ((length ws ∷ []) ++ bytes) c.write_each.result c.in_ok-extend_from_slice.ensures.grown
-    (grown_more one two three (length ws ∷ []) bytes c.write_each.result c.in_ok-push.ensures.grown c.write_each.ensures.grown))
+    let two = c.write_each.new.card in
+    subst (λ all. Grown start two all c.write_each.result) (alternative_parts c.args.self.now ws c.weights-weights.ensures)
+    (grown_more start one two (codes "AL" ++ (length ws ∷ [])) bytes c.write_each.result c.in_ok-extend_from_slice.ensures.grown c.write_each.ensures.grown)
 
 pub returns-clause-fits : goal.returns-clause-fits
 returns-clause-fits c = subst (λ ws. OnOk c.write_each.result (Fit ws)) c.weights-weights.ensures c.write_each.ensures.fits

@@ -16,8 +16,6 @@ returns-clause-grown c =
     let numbers = c.head.result ∷ length ls ∷ [] in
     let start = c.args.card.now in
     let one = c.extend_from_slice.new.self in
-    let two = c.extend_from_slice-2.new.self in
-    let three = c.write_each.new.card in
-    subst (λ all. Grown start three all c.write_each.result) (rule_parts c.args.self.now c.head.result ls c.head.ensures c.body-body.ensures)
-    (grown_more start one three (codes "RU") (numbers ++ bytes) c.write_each.result c.in_ok-extend_from_slice.ensures.grown
-    (grown_more one two three numbers bytes c.write_each.result c.in_ok-extend_from_slice-2.ensures.grown c.write_each.ensures.grown))
+    let two = c.write_each.new.card in
+    subst (λ all. Grown start two all c.write_each.result) (rule_parts c.args.self.now c.head.result ls c.head.ensures c.body-body.ensures)
+    (grown_more start one two (codes "RU" ++ numbers) bytes c.write_each.result c.in_ok-extend_from_slice.ensures.grown c.write_each.ensures.grown)
